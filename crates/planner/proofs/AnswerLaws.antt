@@ -1,0 +1,53 @@
+-- Different answers of the planner have different outcomes. Assumes nothing.
+use mathlib.Core.Path.{_≡_, refl, sym, ap, _∙_}
+use Prim.Native.Nat.{ℕ, zero, suc}
+use native.Mathlib.Omega.{arith}
+use Rattle.planner.specs.Outcome.{Outcome, refused, planned}
+use Rattle.planner.specs.Answer.{number, outcome}
+use Rattle.planner.specs.declared.Refusal.{Refusal}
+use Rattle.planner.specs.declared.Refusal.the-variants.{NoDisplacement, DisplacementRange, VelocityRange, AccelerationRange, JerkRange, SnapRange, TooManySamples}
+use Rattle.planner.specs.declared.Plan.{Plan}
+use Rattle.planner.specs.declared.PlanAnswer.{PlanAnswer}
+use Rattle.planner.specs.declared.PlanAnswer.the-variants.{Planned, Refused}
+
+-- the refusal that a number from 1 to 7 names
+refusal : ℕ → Refusal
+refusal zero = NoDisplacement
+refusal (suc zero) = NoDisplacement
+refusal (suc (suc zero)) = DisplacementRange
+refusal (suc (suc (suc zero))) = VelocityRange
+refusal (suc (suc (suc (suc zero)))) = AccelerationRange
+refusal (suc (suc (suc (suc (suc zero))))) = JerkRange
+refusal (suc (suc (suc (suc (suc (suc zero)))))) = SnapRange
+refusal (suc (suc (suc (suc (suc (suc (suc n))))))) = TooManySamples
+
+named : (x : Refusal) → refusal (number x) ≡ x
+unfolding refusal
+named NoDisplacement = refl
+named DisplacementRange = refl
+named VelocityRange = refl
+named AccelerationRange = refl
+named JerkRange = refl
+named SnapRange = refl
+named TooManySamples = refl
+
+same-plan : (x y : Plan) → outcome (Planned x) ≡ outcome (Planned y) → x ≡ y
+same-plan x y h =
+    let a : x .a ≡ y .a = cc in
+    let b : x .b ≡ y .b = cc in
+    let c : x .c ≡ y .c = cc in
+    let e : x .e ≡ y .e = cc in
+    let snap : x .snap ≡ y .snap = cc in
+    let shortfall : x .shortfall ≡ y .shortfall = cc in
+    λ i. record { a = a i; b = b i; c = c i; e = e i; snap = snap i; shortfall = shortfall i }
+
+apart : {n a b c e D short : ℕ} → refused n ≡ planned a b c e D short → ⊥
+apart h = let z : _≡_ {A = ℕ} 0 1 = cc in omega arith
+
+pub outcome-injective : (x y : PlanAnswer) → outcome x ≡ outcome y → x ≡ y
+outcome-injective (Planned x) (Planned y) h = ap Planned (same-plan x y h)
+outcome-injective (Planned x) (Refused y) h = absurd (apart (sym h))
+outcome-injective (Refused x) (Planned y) h = absurd (apart h)
+outcome-injective (Refused x) (Refused y) h =
+    let n : number x ≡ number y = cc in
+    ap Refused (sym (named x) ∙ ap refusal n ∙ named y)

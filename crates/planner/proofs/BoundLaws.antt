@@ -1,0 +1,84 @@
+-- Laws of the intervals of a move: their order, their durations, and the bounds that the snap keeps.
+-- Assumes nothing.
+use mathlib.Core.Path.{_≡_, sym, _∙_}
+use Prim.Native.Nat.{ℕ, _+_, _-_, _*_, _/_, _≤_, min}
+use native.Mathlib.Nat.{le-trans, le-of-eq, mul-pos, mul-assoc, le-of-mul-le-mul-right, div-mul-le-self, le-max-left}
+use native.Mathlib.Omega.{arith}
+use Rattle.planner.specs.Intervals.{interval-a, interval-b, interval-c, interval-e, a, b, c, e}
+use Rattle.planner.specs.Durations.{p, q, r, s, N, P, D}
+use Rattle.planner.specs.Facts.{Ordered, KeepsBounds}
+use Rattle.planner.proofs.LeastLaws.{least-positive}
+
+min-positive : {x y : ℕ} → 1 ≤ x → 1 ≤ y → 1 ≤ min x y
+min-positive h k = omega arith
+
+pub ordered : (W V₀ A₀ J₀ S₀ : ℕ) → Ordered (a W V₀ A₀ J₀ S₀) (b W V₀ A₀ J₀ S₀) (c W V₀ A₀ J₀ S₀) (e W V₀ A₀ J₀ S₀)
+unfolding a b c e interval-a interval-b interval-c interval-e
+ordered W V₀ A₀ J₀ S₀ =
+    record {
+      one-a = min-positive (least-positive _) (min-positive (least-positive _) (min-positive (least-positive _) (least-positive _)));
+      a-b = le-max-left _ _;
+      ab-c = le-max-left _ _;
+      abc-e = le-max-left _ _;
+    }
+
+-- what is left of an interval after those before it
+left-1 : (a b : ℕ) → a ≤ b → b ≡ a + (b - a)
+left-1 a b h = omega arith
+
+left-2 : (a b c : ℕ) → a + b ≤ c → c ≡ a + b + (c - a - b)
+left-2 a b c h = omega arith
+
+left-3 : (a b c e : ℕ) → a + b + c ≤ e → e ≡ a + b + c + (e - a - b - c)
+left-3 a b c e h = omega arith
+
+eightfold : (a b c e q r s : ℕ) → b ≡ a + q → c ≡ a + b + r → e ≡ a + b + c + s → a + b + c + e ≡ 8 * a + 4 * q + 2 * r + s
+eightfold a b c e q r s hb hc he = omega arith
+
+module _ {a b c e : ℕ} (o : Ordered a b c e) where
+  -- "N = a+b+c+e = 8p+4q+2r+s"
+  pub durations : N a b c e ≡ 8 * p a + 4 * q a b + 2 * r a b c + s a b c e
+  durations = eightfold a b c e (q a b) (r a b c) (s a b c e) (left-1 a b (o .a-b)) (left-2 a b c (o .ab-c)) (left-3 a b c e (o .abc-e))
+
+  one-b : 1 ≤ b
+  one-b = omega (arith, o .one-a, o .a-b)
+
+  one-c : 1 ≤ c
+  one-c = omega (arith, o .one-a, o .ab-c)
+
+  one-e : 1 ≤ e
+  one-e = omega (arith, o .one-a, o .abc-e)
+
+  pub product-positive : 1 ≤ P a b c e
+  product-positive = mul-pos (mul-pos (mul-pos (o .one-a) one-b) one-c) one-e
+
+  -- each bound from the one after it: the last interval covers W, and each interval covers the bound that was carried on
+  module _ (W V₀ A₀ J₀ S₀ J₁ A₁ V₁ : ℕ) (covers-W : W ≤ V₁ * e) (covers-V : V₁ ≤ A₁ * c) (covers-A : A₁ ≤ J₁ * b) (covers-J : J₁ ≤ S₀ * a) where
+    snap : ℕ
+    snap = D W a b c e
+
+    regroup : snap * a * b * c * e ≡ snap * P a b c e
+    regroup = rw (mul-assoc (snap * a * b) c e, mul-assoc (snap * a) b (c * e), mul-assoc snap a (b * (c * e)), mul-assoc (a * b) c e, mul-assoc a b (c * e))
+
+    velocity : snap * a * b * c ≤ V₁
+    unfolding snap
+    velocity = le-of-mul-le-mul-right (le-trans (le-of-eq regroup) (le-trans (div-mul-le-self W (P a b c e)) covers-W)) one-e
+
+    acceleration : snap * a * b ≤ A₁
+    acceleration = le-of-mul-le-mul-right (le-trans velocity covers-V) one-c
+
+    jerk : snap * a ≤ J₁
+    jerk = le-of-mul-le-mul-right (le-trans acceleration covers-A) one-b
+
+    pub keeps-bounds : V₁ ≤ V₀ → A₁ ≤ A₀ → J₁ ≤ J₀ → KeepsBounds V₀ A₀ J₀ S₀ J₁ A₁ V₁ (D W a b c e) a b c
+    unfolding snap
+    keeps-bounds hv ha hj =
+        record {
+          snap = le-of-mul-le-mul-right (le-trans jerk covers-J) (o .one-a);
+          jerk = jerk;
+          jerk-bound = hj;
+          acceleration = acceleration;
+          acceleration-bound = ha;
+          velocity = velocity;
+          velocity-bound = hv;
+        }

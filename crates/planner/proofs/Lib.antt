@@ -1,0 +1,13 @@
+pub mod LeastLaws
+pub mod ReachLaws
+pub mod Forms
+pub mod CapLaws
+pub mod Sign
+pub mod RefusalLaws
+pub mod BoundLaws
+pub mod ProductBound
+pub mod TenLeastNumbers
+pub mod StarredMoves
+pub mod AnswerLaws
+pub mod Acceptance
+pub mod PlannedFacts

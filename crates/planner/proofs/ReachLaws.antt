@@ -1,0 +1,78 @@
+-- Laws of n·(u+n)^d: small powers, bounds, growth with n, and the division that takes a bound to the other side.
+-- Assumes nothing.
+use mathlib.Core.Path.{_≡_, sym, ap, subst, fun-ext, _∙_}
+use mathlib.Core.Bool.{Bool, true, false}
+use mathlib.Core.Logic.{_↔_}
+use Prim.Native.Nat.{ℕ, zero, suc, suc-le-suc, _+_, _-_, _*_, _/_, _^_, _≤_, _<_, min}
+use native.Mathlib.Nat.{le-refl, le-of-suc-le-suc, lt-of-not-le, suc-mul, le-trans, mul-le-mul, mul-le-mul-left, pow-zero, pow-suc, pow-le-pow-left, pow-le-pow-right, one-le-pow, one-mul, mul-one, mul-comm, le-mul-of-pos-right, div-lt-iff-lt-mul, eq-zero-or-pos, zero-mul}
+use native.Mathlib.Omega.{arith}
+use native.Mathlib.Decide.{decLe}
+use lib.Dec.{leb}
+use borrow.Author.Tests.{le-leb, lt-leb, leb-true, leb-false}
+use Rattle.planner.specs.Least.{least}
+use Rattle.planner.specs.Inner.Search.{growth, reaches, LeastWithin}
+use Rattle.planner.proofs.LeastLaws.{Rising, Findable, least-is, within-least}
+
+pub pow-one : (m : ℕ) → m ^ 1 ≡ m
+pow-one m = pow-suc m 0 ∙ ap (λ (x : ℕ). x * m) (pow-zero m) ∙ one-mul m
+
+pub pow-two : (m : ℕ) → m ^ 2 ≡ m * m
+pow-two m = pow-suc m 1 ∙ ap (λ (x : ℕ). x * m) (pow-one m)
+
+pub pow-three : (m : ℕ) → m ^ 3 ≡ m * m * m
+pow-three m = pow-suc m 2 ∙ ap (λ (x : ℕ). x * m) (pow-two m)
+
+-- a power fits where its base and its exponent are small
+pub pow-bound : {m d : ℕ} → m ≤ 2 ^ 14 → d ≤ 3 → m ^ d ≤ 2 ^ 42
+pow-bound {m} {d} hm hd = le-trans (pow-le-pow-left hm d) (pow-le-pow-right (omega arith) hd)
+
+pub growth-mono : (u d m n : ℕ) → m ≤ n → growth u d m ≤ growth u d n
+growth-mono u d m n h = mul-le-mul h (pow-le-pow-left (omega arith) d)
+
+pub growth-at-least : (u d n : ℕ) → n ≤ growth u d n
+growth-at-least u d zero = omega arith
+growth-at-least u d (suc n) = le-mul-of-pos-right (suc n) (one-le-pow d (u + suc n) (omega arith))
+
+-- a test rises where what it compares with does
+pub leb-mono : (t x y : ℕ) → x ≤ y → leb t x ≡ true → leb t y ≡ true
+leb-mono t x y h e = le-leb t y (le-trans (leb-true t x e) h)
+
+pub growth-rising : (u d t : ℕ) → Rising (λ (n : ℕ). leb t (growth u d n))
+growth-rising u d t m n h = leb-mono t (growth u d m) (growth u d n) (growth-mono u d m n h)
+
+pub reaches-findable : (k u d t : ℕ) → 1 ≤ k → t ≤ 2 ^ 60 → Findable (reaches k u d t)
+reaches-findable k u d t hk ht =
+    record {
+      rising = λ m n h. leb-mono t (k * growth u d m) (k * growth u d n) (mul-le-mul-left k (growth-mono u d m n h));
+      somewhere = le-leb t (k * growth u d (2 ^ 60)) (le-trans ht (le-trans (growth-at-least u d (2 ^ 60)) (le-times k (growth u d (2 ^ 60)) hk)));
+    }
+  where
+    le-times : (k x : ℕ) → 1 ≤ k → x ≤ k * x
+    le-times k x h = subst (λ (y : ℕ). x ≤ y) (mul-comm x k) (le-mul-of-pos-right x h)
+
+-- t ≤ k·x where ⌈t/k⌉ ≤ x
+module _ (k t x : ℕ) (hk : 1 ≤ k) where
+  quotient-below : ((t + (k - 1)) / k < suc x) ↔ (t + (k - 1) < suc x * k)
+  quotient-below = div-lt-iff-lt-mul hk
+
+  regroup : suc x * k ≡ k * x + k
+  regroup = suc-mul x k ∙ ap (λ (y : ℕ). y + k) (mul-comm x k)
+
+  ceiling-le : t ≤ k * x → (t + (k - 1)) / k ≤ x
+  ceiling-le h = le-of-suc-le-suc (quotient-below .1 (rw regroup (omega arith)))
+
+  ceiling-lt : k * x < t → x < (t + (k - 1)) / k
+  ceiling-lt h = lt-of-not-le (λ le. let lt : t + (k - 1) < k * x + k = rw regroup at (quotient-below .0 (suc-le-suc le)) in absurd (omega arith))
+
+  pub ceiling : leb ((t + (k - 1)) / k) x ≡ leb t (k * x)
+  ceiling = ceiling-by (decLe t (k * x))
+    where
+      ceiling-by : Dec (t ≤ k * x) → leb ((t + (k - 1)) / k) x ≡ leb t (k * x)
+      ceiling-by (yes h) = le-leb _ _ (ceiling-le h) ∙ sym (le-leb t (k * x) h)
+      ceiling-by (no h) = lt-leb _ _ (ceiling-lt (omega arith)) ∙ sym (lt-leb t (k * x) (omega arith))
+
+-- what the search finds for the quotient is the least number for the bound, as far as 4,097
+pub capped-least : (k u d t r : ℕ) → 1 ≤ k → t ≤ 2 ^ 60 → LeastWithin (λ (n : ℕ). leb ((t + (k - 1)) / k) (growth u d n)) 1 4097 r → r ≡ min 4097 (least (reaches k u d t))
+capped-least k u d t r hk ht w =
+    within-least (reaches k u d t) 4097 r (least (reaches k u d t)) (least-is (reaches k u d t) (reaches-findable k u d t hk ht))
+    (subst (λ (p : ℕ → Bool). LeastWithin p 1 4097 r) (fun-ext (λ n. ceiling k t (growth u d n) hk)) w)

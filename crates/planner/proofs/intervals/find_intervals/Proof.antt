@@ -1,0 +1,63 @@
+use Rattle.planner.proofs.CapLaws.{intervals-agree}
+use borrow.Author.Needs.{needs}
+use Rattle.planner.proofs.intervals.find_intervals.Statement.{statement}
+use Rattle.planner.proofs.intervals.find_intervals.Tie as tie
+use Rattle.planner.proofs.intervals.find_intervals.Reads as reads
+use Rattle.planner.proofs.intervals.find_intervals.Lts as lts
+use Rattle.planner.proofs.intervals.carried.Reads as carried-reads
+use Rattle.planner.proofs.intervals.interval_a.Reads as interval-a-reads
+use Rattle.planner.proofs.intervals.interval_b.Reads as interval-b-reads
+use Rattle.planner.proofs.intervals.interval_c.Reads as interval-c-reads
+use Rattle.planner.proofs.intervals.interval_e.Reads as interval-e-reads
+
+-- src/intervals.rt:79:9
+interval-a-requires : tie.Need-interval-a-requires
+interval-a-requires c κs = search needs
+
+-- src/intervals.rt:80:9
+carried-requires : tie.Need-carried-requires
+carried-requires c κs = search needs
+
+-- src/intervals.rt:81:9
+interval-b-requires : tie.Need-interval-b-requires
+interval-b-requires c κs = search needs
+
+-- src/intervals.rt:82:9
+carried-requires-2 : tie.Need-carried-requires-2
+carried-requires-2 c κs = search needs
+
+-- src/intervals.rt:83:9
+interval-c-requires : tie.Need-interval-c-requires
+interval-c-requires c κs = search needs
+
+-- src/intervals.rt:84:9
+carried-requires-3 : tie.Need-carried-requires-3
+carried-requires-3 c κs = search needs
+
+-- src/intervals.rt:85:9
+interval-e-requires : tie.Need-interval-e-requires
+interval-e-requires c κs = search needs
+
+-- src/intervals.rt:75:1
+returns : tie.Need-returns
+returns c = intervals-agree _ _ _ _ _ _ _ _ _ _ _ _
+    (c .before .before .before .before .before .before .interval-a .ensures)
+    (c .before .before .before .before .before .carried .ensures)
+    (c .before .before .before .before .interval-b .ensures)
+    (c .before .before .before .carried2 .ensures)
+    (c .before .before .interval-c .ensures)
+    (c .before .carried3 .ensures)
+    (c .interval-e .ensures)
+
+pub find-intervals-spec : {M : Type 1} → statement M
+find-intervals-spec =
+    tie.close
+    (tie.spec
+    interval-a-requires
+    carried-requires
+    interval-b-requires
+    carried-requires-2
+    interval-c-requires
+    carried-requires-3
+    interval-e-requires
+    returns)

@@ -1,0 +1,32 @@
+use Rattle.planner.proofs.ReachLaws.{capped-least}
+use borrow.Author.Needs.{needs}
+use Rattle.planner.proofs.search.least_interval.Statement.{statement}
+use Rattle.planner.proofs.search.least_interval.Tie as tie
+use Rattle.planner.proofs.search.least_interval.Reads as reads
+use Rattle.planner.proofs.search.least_interval.Lts as lts
+use Rattle.planner.proofs.search.search.Reads as search-reads
+
+-- src/search.rt:45:24
+sub-search : tie.Need-sub-search
+sub-search c = search needs
+
+-- src/search.rt:45:19
+add-search : tie.Need-add-search
+add-search c = search needs
+
+-- src/search.rt:45:18
+div-search : tie.Need-div-search
+div-search c = search needs
+
+-- src/search.rt:45:5
+search-requires : tie.Need-search-requires
+search-requires c κs = search needs
+
+-- src/search.rt:41:1
+returns : tie.Need-returns
+returns c =
+    let a = c .before .args in
+    capped-least (a .k) (a .u) (a .d) (a .t) (c .search .result) (c .before .pre .bound) (c .before .pre .target) (c .search .ensures)
+
+pub least-interval-spec : {M : Type 1} → statement M
+least-interval-spec = tie.close (tie.spec sub-search add-search div-search search-requires returns)

@@ -1,0 +1,3 @@
+-- What the contracts of private functions cite. No rule of the paper stands below here, and no promise of an entry rests on it.
+pub mod Search
+pub mod Capped

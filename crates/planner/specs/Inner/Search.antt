@@ -1,0 +1,33 @@
+-- The search. All ten properties have one form: t ≤ k·n·(u+n)^d, with k a bound, t what must be reached, and u the intervals before.
+use mathlib.Core.Path.{_≡_}
+use mathlib.Core.Bool.{Bool, true, false}
+use Prim.Native.Nat.{ℕ, _+_, _*_, _^_, _≤_, _<_}
+use lib.Dec.{leb}
+
+abbrev pub growth : (u d n : ℕ) → ℕ
+growth u d n = n * (u + n) ^ d
+
+abbrev pub reaches : (k u d t n : ℕ) → Bool
+reaches k u d t n = leb t (k * growth u d n)
+
+-- r is the least number from lo on with the property p, or hi where none below hi has it.
+pub record LeastWithin (p : ℕ → Bool) (lo hi r : ℕ) : Type 0 where
+  pub low : lo ≤ r
+  pub high : r ≤ hi
+  pub before : (n : ℕ) → lo ≤ n → n < r → p n ≡ false
+  pub here : r < hi → p r ≡ true
+
+-- The arguments of the search up to cap: small enough that no product leaves 64 bits.
+pub record SearchArgs (cap u d lo hi : ℕ) : Type 0 where
+  pub offset : u ≤ 2 * cap
+  pub degree : d ≤ 3
+  pub ordered : lo ≤ hi
+  pub top : hi ≤ cap
+
+-- The arguments of one of the ten: k·n·(u+n)^d is to reach t.
+pub record ReachArgs (cap k u d t : ℕ) : Type 0 where
+  pub bound : 1 ≤ k
+  pub bound-top : k ≤ 2 ^ 53
+  pub offset : u ≤ 2 * cap
+  pub degree : d ≤ 3
+  pub target : t ≤ 2 ^ 60

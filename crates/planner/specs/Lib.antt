@@ -1,0 +1,9 @@
+pub mod Quantities
+pub mod Least
+pub mod Intervals
+pub mod Durations
+pub mod Outcome
+pub mod Answer
+pub mod Facts
+pub mod Starred
+pub mod Inner

@@ -1,0 +1,51 @@
+// The plan of a move whose figures are in range.
+use crate::Plan;
+use crate::PlanAnswer;
+use crate::Refusal;
+use crate::intervals::find_intervals;
+ghost use mathlib.Core.Path.{_≡_};
+ghost use Prim.Native.Nat.{_-_, _*_, _/_, _≤_};
+ghost use Rattle.planner.specs.Answer.{outcome};
+ghost use Rattle.planner.specs.Inner.Capped.{Figures, planWithin};
+
+// The most samples that a move may take.
+const MOST_SAMPLES: u64 = 4096;
+
+// D, the size of the snap: W over P, rounded down, so that no bound and not the end is passed.
+fn snap_size(w: u64, p: u64) -> u64
+    requires { ⌜ 1 ≤ p ⌝ }
+    ensures { λ r. ⌜ r ≡ w / p ⌝ }
+{
+    w / p
+}
+
+fn shortfall(w: u64, d: u64, p: u64) -> u64
+    requires { ⌜ d * p ≤ w ⌝ }
+    ensures { λ r. ⌜ r ≡ w - d * p ⌝ }
+{
+    w - d * p
+}
+
+pub(crate) fn plan_in_range(w: u64, v: u64, acc: u64, j: u64, s: u64) -> PlanAnswer
+    requires { ⌜ Figures w v acc j s ⌝ }
+    ensures { λ r. ⌜ outcome r ≡ planWithin w v acc j s ⌝ }
+{
+    let i = find_intervals(w, v, acc, j, s);
+    let a = i.a;
+    let b = i.b;
+    let c = i.c;
+    let e = i.e;
+    if MOST_SAMPLES < a + b + c + e {
+        return PlanAnswer::Refused(Refusal::TooManySamples);
+    }
+    let p = a * b * c * e;
+    let snap = snap_size(w, p);
+    PlanAnswer::Planned(Plan {
+        a,
+        b,
+        c,
+        e,
+        snap,
+        shortfall: shortfall(w, snap, p),
+    })
+}

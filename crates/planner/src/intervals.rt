@@ -1,0 +1,87 @@
+// The four intervals of a move in range. An interval above 4,096 may come out smaller than the rule's,
+// but never below 4,097: such a move is refused either way.
+use crate::search::least_interval;
+ghost use mathlib.Core.Path.{_≡_};
+ghost use Prim.Native.Nat.{_+_, _*_, _^_, _≤_, min, max};
+ghost use Rattle.planner.specs.Intervals.{interval-a, interval-b, interval-c, interval-e};
+ghost use Rattle.planner.specs.Outcome.{BoundInRange};
+ghost use Rattle.planner.specs.Inner.Capped.{Agrees, Carried, Figures, IntervalsAgree};
+
+pub(crate) struct Intervals {
+    pub a: u64,
+    pub b: u64,
+    pub c: u64,
+    pub e: u64,
+}
+
+fn smaller(x: u64, y: u64) -> u64
+    ensures { λ r. ⌜ r ≡ min x y ⌝ }
+{
+    if x < y { x } else { y }
+}
+
+fn larger(x: u64, y: u64) -> u64
+    ensures { λ r. ⌜ r ≡ max x y ⌝ }
+{
+    if x < y { y } else { x }
+}
+
+// The bound that the next interval goes by: J1, A1 or V1.
+fn carried(bound: u64, k: u64, n: u64) -> u64
+    requires { ⌜ BoundInRange bound × BoundInRange k × (1 ≤ n) × (n ≤ 8194) ⌝ }
+    ensures { λ r. ⌜ Carried bound k n r ⌝ }
+{
+    smaller(bound, k * n)
+}
+
+fn interval_a(w: u64, v: u64, acc: u64, j: u64, s: u64) -> u64
+    requires { ⌜ Figures w v acc j s ⌝ }
+    ensures { λ r. ⌜ Agrees 4097 4097 r (interval-a w v acc j s) ⌝ }
+{
+    let distance = least_interval(8 * s, 0, 3, w);
+    let velocity = least_interval(2 * s, 0, 2, v);
+    let acceleration = least_interval(s, 0, 1, acc);
+    let jerk = least_interval(s, 0, 0, j);
+    smaller(distance, smaller(velocity, smaller(acceleration, jerk)))
+}
+
+fn interval_b(w: u64, v: u64, acc: u64, j1: u64, a: u64) -> u64
+    requires { ⌜ (w ≤ 2 ^ 60) × BoundInRange v × BoundInRange acc × BoundInRange j1 × (a ≤ 4097) ⌝ }
+    ensures { λ r. ⌜ Agrees 4097 4097 r (interval-b w v acc j1 a) ⌝ }
+{
+    let distance = least_interval(2 * j1, a, 2, w);
+    let velocity = least_interval(j1, a, 1, v);
+    let acceleration = least_interval(j1, a, 0, acc);
+    larger(a, smaller(distance, smaller(velocity, acceleration)))
+}
+
+fn interval_c(w: u64, v: u64, a1: u64, a: u64, b: u64) -> u64
+    requires { ⌜ (w ≤ 2 ^ 60) × BoundInRange v × BoundInRange a1 × (a ≤ 4097) × (b ≤ 4097) ⌝ }
+    ensures { λ r. ⌜ Agrees 4097 8194 r (interval-c w v a1 a b) ⌝ }
+{
+    let distance = least_interval(a1, a + b, 1, w);
+    let velocity = least_interval(a1, a + b, 0, v);
+    larger(a + b, smaller(distance, velocity))
+}
+
+fn interval_e(w: u64, v1: u64, a: u64, b: u64, c: u64) -> u64
+    requires { ⌜ (w ≤ 2 ^ 60) × BoundInRange v1 × (a ≤ 4097) × (b ≤ 4097) × (c ≤ 8194) ⌝ }
+    ensures { λ r. ⌜ Agrees 4097 16388 r (interval-e w v1 a b c) ⌝ }
+{
+    let distance = least_interval(v1, 0, 0, w);
+    larger(a + b + c, distance)
+}
+
+pub(crate) fn find_intervals(w: u64, v: u64, acc: u64, j: u64, s: u64) -> Intervals
+    requires { ⌜ Figures w v acc j s ⌝ }
+    ensures { λ r. ⌜ IntervalsAgree 4097 w v acc j s (r .a) (r .b) (r .c) (r .e) ⌝ }
+{
+    let a = interval_a(w, v, acc, j, s);
+    let j1 = carried(j, s, a);
+    let b = interval_b(w, v, acc, j1, a);
+    let a1 = carried(acc, j1, b);
+    let c = interval_c(w, v, a1, a, b);
+    let v1 = carried(v, a1, c);
+    let e = interval_e(w, v1, a, b, c);
+    Intervals { a, b, c, e }
+}

@@ -1,0 +1,46 @@
+// The search for the least interval that reaches a target.
+ghost use mathlib.Core.Path.{_≡_};
+ghost use Prim.Native.Nat.{ℕ, _+_, _*_, _^_, _≤_, min};
+ghost use lib.Dec.{leb};
+ghost use Rattle.planner.specs.Least.{least};
+ghost use Rattle.planner.specs.Inner.Search.{growth, reaches, LeastWithin, SearchArgs, ReachArgs};
+
+// m^d. A match is quicker here than a loop: d is the same in all turns of a search.
+fn power(m: u64, d: u64) -> u64
+    requires { ⌜ (m ≤ 2 ^ 14) × (d ≤ 3) ⌝ }
+    ensures { λ r. ⌜ r ≡ m ^ d ⌝ }
+{
+    match d {
+        0 => 1,
+        1 => m,
+        2 => m * m,
+        _ => m * m * m,
+    }
+}
+
+// The least n from lo to hi with n·(u+n)^d ≥ t, or hi where there is none below it. The span from
+// lo to hi is halved until one number is left.
+fn search(u: u64, d: u64, t: u64, lo: u64, hi: u64) -> u64
+    requires { ⌜ SearchArgs 4097 u d lo hi ⌝ }
+    ensures { λ r. ⌜ LeastWithin (λ (n : ℕ). leb t (growth u d n)) lo hi r ⌝ }
+{
+    if lo == hi {
+        return lo;
+    }
+    let mid = lo + (hi - lo) / 2;
+    let reached = mid * power(u + mid, d);
+    if t <= reached {
+        search(u, d, t, lo, mid)
+    } else {
+        search(u, d, t, mid + 1, hi)
+    }
+}
+
+// The least n with k·n·(u+n)^d ≥ t, or 4,097 where no n up to 4,096 has it: a plan has at most 4,096
+// samples. One division takes the bound k to the other side, so that no product passes 64 bits.
+pub(crate) fn least_interval(k: u64, u: u64, d: u64, t: u64) -> u64
+    requires { ⌜ ReachArgs 4097 k u d t ⌝ }
+    ensures { λ r. ⌜ r ≡ min 4097 (least (reaches k u d t)) ⌝ }
+{
+    search(u, d, (t + (k - 1)) / k, 1, 4097)
+}

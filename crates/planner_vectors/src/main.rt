@@ -1,0 +1,67 @@
+// Plans each move of standard input and writes the answer, a line each. It holds no expectation: the
+// stored answers are those of the reference, which was written from the paper alone.
+//
+// A line is five numbers of 20 bytes, X V A J S, right-aligned, with a space between and byte 10 after.
+mod number;
+
+use crate::number::read_field;
+use crate::number::signed;
+use planner::Move;
+use planner::Plan;
+use planner::PlanAnswer;
+
+fn main() {
+    let mut left = 1_000_000u64;
+    while left > 0 {
+        if !answer_line() {
+            return;
+        }
+        left -= 1;
+    }
+}
+
+// Answers one line; false at the end of the input.
+fn answer_line() -> bool {
+    let mut line = [0u8; 105];
+    if io::read_full(0, &mut line) != 105 {
+        return false;
+    }
+    write_answer(planner::plan_move(read_move(&line)));
+    true
+}
+
+fn read_move(line: &[u8; 105]) -> Move {
+    Move {
+        displacement: signed(read_field(line, 0)),
+        velocity: read_field(line, 21).size,
+        acceleration: read_field(line, 42).size,
+        jerk: read_field(line, 63).size,
+        snap: read_field(line, 84).size,
+    }
+}
+
+fn write_answer(answer: PlanAnswer) {
+    match answer {
+        PlanAnswer::Refused(refusal) => {
+            io::write_all(1, b"refused");
+            write_number(planner::refusal_number(refusal));
+        }
+        PlanAnswer::Planned(plan) => write_plan(plan),
+    }
+    io::write_all(1, b"\n");
+}
+
+fn write_plan(plan: Plan) {
+    io::write_all(1, b"planned");
+    write_number(plan.a);
+    write_number(plan.b);
+    write_number(plan.c);
+    write_number(plan.e);
+    write_number(plan.snap);
+    write_number(plan.shortfall);
+}
+
+fn write_number(n: u64) {
+    io::write_all(1, b" ");
+    io::print_decimal(1, n);
+}

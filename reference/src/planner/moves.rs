@@ -1,0 +1,47 @@
+//! A move as it is sent, and the refusals that need no planning.
+
+/// Grains in one count (G in the paper).
+pub const COUNT_GRAINS: u128 = 1 << 40;
+
+/// The largest size of a displacement in counts (row 2).
+pub const LARGEST_DISPLACEMENT: u64 = 1_048_576;
+
+/// The largest value of each of the four bounds (rows 3 to 6).
+pub const LARGEST_BOUND: u64 = 1 << 50;
+
+/// The displacement X in counts and the bounds V, A, J and S in grains.
+#[derive(Clone, Copy, Debug, PartialEq, Eq, Hash)]
+pub struct Move {
+    pub displacement: i64,
+    pub velocity: u64,
+    pub acceleration: u64,
+    pub jerk: u64,
+    pub snap: u64,
+}
+
+impl Move {
+    /// The way in grains (W in the paper): G times the size of X.
+    pub fn w(&self) -> u128 {
+        COUNT_GRAINS * u128::from(self.displacement.unsigned_abs())
+    }
+
+    /// The first of the refusals 1 to 6 that applies.
+    pub fn range_refusal(&self) -> Option<u8> {
+        let size = self.displacement.unsigned_abs();
+        let refusals = [
+            (1, size == 0),
+            (2, size > LARGEST_DISPLACEMENT),
+            (3, outside(self.velocity)),
+            (4, outside(self.acceleration)),
+            (5, outside(self.jerk)),
+            (6, outside(self.snap)),
+        ];
+        let first = refusals.iter().find(|(_, applies)| *applies);
+        first.map(|(number, _)| *number)
+    }
+}
+
+/// Whether a bound is not in 1 to 2^50.
+fn outside(bound: u64) -> bool {
+    !(1..=LARGEST_BOUND).contains(&bound)
+}

@@ -1,0 +1,38 @@
+//! Test vectors: an input file and the output that the reference gives for it.
+
+pub mod planner;
+mod splitmix;
+mod store;
+
+use std::path::Path;
+
+/// The two files of one kind of vectors.
+#[derive(Clone, Debug, PartialEq, Eq)]
+pub struct Files {
+    pub stdin: String,
+    pub stdout: String,
+}
+
+/// Why the command failed.
+#[derive(Clone, Debug, PartialEq, Eq)]
+pub enum Failure {
+    /// The words of the command make no sense.
+    Usage,
+    /// The vectors could not be made, written, or found equal.
+    Message(String),
+}
+
+/// Runs `ACTION KIND DIR`, where the action is `write` or `check`.
+pub fn run(action: &str, kind: &str, dir: &Path) -> Result<(), Failure> {
+    let store = match action {
+        "write" => store::write,
+        "check" => store::check,
+        _ => return Err(Failure::Usage),
+    };
+    let made = match kind {
+        "planner" => planner::files(),
+        _ => return Err(Failure::Usage),
+    };
+    made.and_then(|files| store(dir, &files))
+        .map_err(|message| Failure::Message(format!("{kind} vectors: {message}")))
+}

@@ -1,0 +1,38 @@
+//! The two files as text.
+
+use crate::planner::{plan, Answer, Move};
+use crate::vectors::Files;
+
+pub fn files(moves: &[Move]) -> Files {
+    Files {
+        stdin: moves.iter().map(input_line).collect(),
+        stdout: moves.iter().map(output_line).collect(),
+    }
+}
+
+/// X V A J S, each 20 characters wide: every line has 105 bytes, so a reader
+/// finds any move without reading the ones before it.
+fn input_line(motion: &Move) -> String {
+    let Move {
+        displacement,
+        velocity,
+        acceleration,
+        jerk,
+        snap,
+    } = motion;
+    format!("{displacement:>20} {velocity:>20} {acceleration:>20} {jerk:>20} {snap:>20}\n")
+}
+
+fn output_line(motion: &Move) -> String {
+    match plan(motion) {
+        Answer::Refused(number) => format!("refused {number}\n"),
+        Answer::Planned {
+            a,
+            b,
+            c,
+            e,
+            snap,
+            shortfall,
+        } => format!("planned {a} {b} {c} {e} {snap} {shortfall}\n"),
+    }
+}
