@@ -12,11 +12,16 @@ use Rattle.planner.proofs.LeastLaws.{least-positive}
 min-positive : {x y : ℕ} → 1 ≤ x → 1 ≤ y → 1 ≤ min x y
 min-positive h k = omega arith
 
+pub one-interval-a : (W V₀ A₀ J₀ S₀ : ℕ) → 1 ≤ interval-a W V₀ A₀ J₀ S₀
+unfolding interval-a
+one-interval-a W V₀ A₀ J₀ S₀ =
+    min-positive (least-positive _) (min-positive (least-positive _) (min-positive (least-positive _) (least-positive _)))
+
 pub ordered : (W V₀ A₀ J₀ S₀ : ℕ) → Ordered (a W V₀ A₀ J₀ S₀) (b W V₀ A₀ J₀ S₀) (c W V₀ A₀ J₀ S₀) (e W V₀ A₀ J₀ S₀)
-unfolding a b c e interval-a interval-b interval-c interval-e
+unfolding a b c e interval-b interval-c interval-e
 ordered W V₀ A₀ J₀ S₀ =
     record {
-      one-a = min-positive (least-positive _) (min-positive (least-positive _) (min-positive (least-positive _) (least-positive _)));
+      one-a = one-interval-a W V₀ A₀ J₀ S₀;
       a-b = le-max-left _ _;
       ab-c = le-max-left _ _;
       abc-e = le-max-left _ _;

@@ -1,9 +1,10 @@
 -- From the searches' capped numbers to the rule's intervals: each agrees with its rule as far as 4,096, and so do their sums.
 -- Assumes nothing.
-use mathlib.Core.Path.{_≡_, refl, ap, ap₂, subst, _∙_}
+use mathlib.Core.Path.{_≡_, refl, sym, ap, ap₂, subst, _∙_}
 use mathlib.Core.Bool.{Bool}
 use mathlib.Core.Logic.{_⊎_, inl, inr, ⊎-elim}
 use Prim.Native.Nat.{ℕ, _+_, _*_, _≤_, _<_, min, max}
+use native.Mathlib.Nat.{max-min-distrib-left, max-eq-right}
 use native.Mathlib.Omega.{arith}
 use native.Mathlib.Decide.{decLt}
 use Rattle.planner.specs.Least.{least}
@@ -13,31 +14,46 @@ use Rattle.planner.specs.Outcome.{samplesOf}
 use Rattle.planner.specs.Inner.Capped.{Agrees, Carried, IntervalsAgree}
 use Rattle.planner.proofs.LeastLaws.{least-positive}
 
--- x is m as far as 4,096, and 4,097 where m is more
-pub record Capped (x m : ℕ) : Type 0 where
-  pub value : x ≡ min 4097 m
-  pub positive : 1 ≤ m
+-- x is m, but not below lo and not above hi
+pub record Between (lo hi x m : ℕ) : Type 0 where
+  pub value : x ≡ max lo (min hi m)
 
--- what a search gives, under the paper's form q of its property p
-pub capped-least : {p : ℕ → Bool} {x : ℕ} (q : ℕ → Bool) → p ≡ q → x ≡ min 4097 (least p) → Capped x (least q)
-capped-least {p} {x} q h v =
-    record { value = subst (λ (f : ℕ → Bool). x ≡ min 4097 (least f)) h v; positive = least-positive q }
+-- what the first search gives, under the paper's form q of its property p
+pub between : {p : ℕ → Bool} {lo hi x : ℕ} (q : ℕ → Bool) → p ≡ q → x ≡ max lo (min hi (least p)) → Between lo hi x (least q)
+between {lo = lo} {hi = hi} {x = x} q h v = record { value = subst (λ (f : ℕ → Bool). x ≡ max lo (min hi (least f))) h v }
 
--- the smaller of two
-pub capped-min : {r x y m n : ℕ} → r ≡ min x y → Capped x m → Capped y n → Capped r (min m n)
-capped-min {r} {x} {y} {m} {n} h p q =
-    record { value = h ∙ ap (λ (z : ℕ). min z y) (p .value) ∙ ap (min (min 4097 m)) (q .value) ∙ min-min m n; positive = omega (arith, p .positive, q .positive) }
-  where
-    min-min : (m n : ℕ) → min (min 4097 m) (min 4097 n) ≡ min 4097 (min m n)
-    min-min m n = omega arith
+max-max : (x y : ℕ) → max x (max x y) ≡ max x y
+max-max x y = omega arith
 
-pub agrees : {x m : ℕ} → Capped x m → Agrees 4097 4097 x m
-agrees p = record { agree = omega (arith, p .value); positive = omega (arith, p .value, p .positive); at-most = omega (arith, p .value) }
+min-min : (x y z : ℕ) → min (min x y) z ≡ min x (min z y)
+min-min x y z = omega arith
 
--- the same under "but never below f"
-pub agrees-above : {r f x m : ℕ} (most : ℕ) → r ≡ max f x → Capped x m → f ≤ most → 4097 ≤ most → Agrees 4097 most r (max f m)
-agrees-above most h p hf hm =
-    record { agree = omega (arith, p .value); positive = omega (arith, p .value, p .positive); at-most = omega (arith, p .value) }
+-- a further search, which looks no further than x: the smaller of the two
+narrower : (lo hi m n : ℕ) → max lo (min (max lo (min hi m)) n) ≡ max lo (min hi (min n m))
+narrower lo hi m n =
+    max-min-distrib-left lo (max lo (min hi m)) n
+    ∙ ap (λ (z : ℕ). min z (max lo n)) (max-max lo (min hi m))
+    ∙ sym (max-min-distrib-left lo (min hi m) n)
+    ∙ ap (max lo) (min-min hi m n)
+
+pub between-min :
+    {p : ℕ → Bool} {lo hi x y m : ℕ} (q : ℕ → Bool) → p ≡ q → Between lo hi x m → y ≡ max lo (min x (least p)) → Between lo hi y (min (least q) m)
+between-min {p} {lo} {hi} {x} {y} {m} q h b v =
+    record {
+      value =
+          v ∙ ap (λ (f : ℕ → Bool). max lo (min x (least f))) h ∙ ap (λ (z : ℕ). max lo (min z (least q))) (b .value)
+          ∙ narrower lo hi m (least q);
+    }
+
+-- an interval that is never below lo agrees with the rule as far as 4,096, where its span does not end sooner
+pub agrees : {lo hi r m : ℕ} (most : ℕ) → Between lo hi r m → 1 ≤ lo → lo ≤ hi → 4097 ≤ hi → hi ≤ most → Agrees 4097 most r (max lo m)
+agrees {lo} {hi} {r} {m} most b one h cap top =
+    record { agree = omega (arith, b .value); positive = omega (arith, b .value); at-most = omega (arith, b .value) }
+
+-- the same for the first interval, which may be 1
+pub agrees-from-one : {hi r m : ℕ} (most : ℕ) → Between 1 hi r m → 1 ≤ m → 4097 ≤ hi → hi ≤ most → Agrees 4097 most r m
+agrees-from-one {hi} {r} {m} most b one cap top =
+    subst (Agrees 4097 most r) (max-eq-right one) (agrees most b (omega arith) (omega arith) cap top)
 
 -- two numbers that agree are the same where one of them is below the cap
 same : {most r x y : ℕ} → Agrees 4097 most r x → x ≡ y → (r < 4097) ⊎ (y < 4097) → r ≡ y

@@ -3,7 +3,7 @@
 use mathlib.Core.Path.{_≡_, refl, sym, subst, _∙_}
 use mathlib.Core.Bool.{Bool, true, false, true≢false}
 use mathlib.Core.Logic.{_⊎_, inl, inr, ⊎-elim}
-use Prim.Native.Nat.{ℕ, zero, suc, _+_, _^_, _≤_, _<_, min}
+use Prim.Native.Nat.{ℕ, zero, suc, _+_, _^_, _≤_, _<_, _-_, min, max}
 use native.Mathlib.Nat.{le-refl, add-suc, suc-add, zero-add, eq-or-lt-of-le}
 use native.Mathlib.Omega.{arith}
 use native.Mathlib.Decide.{decLe}
@@ -70,23 +70,23 @@ least-is p f =
     let g = first-from p (2 ^ 60) 1 (f .rising (2 ^ 60) (2 ^ 60 + 1) (omega arith) (f .somewhere)) in
     record { from-one = g .low; holds = g .holds; none-before = g .before }
 
--- what a search from 1 to cap finds is `least`, as far as cap
-pub within-least : (p : ℕ → Bool) (cap r m : ℕ) → IsLeast p m → LeastWithin p 1 cap r → r ≡ min cap m
-within-least p cap r m l w = by-order (decLe m r)
+-- what a search from lo to hi finds is `least`, but not below lo and not above hi
+pub within-least : (p : ℕ → Bool) (lo hi r m : ℕ) → Rising p → IsLeast p m → 1 ≤ lo → lo ≤ hi → LeastWithin p lo hi r → r ≡ max lo (min hi m)
+within-least p lo hi r m up l one h w = by-order (decLe m r) (decLe r lo) (decLe hi r)
   where
-    not-after : m < r → ⊥
-    not-after h = clash (l .holds) (w .before m (l .from-one) h)
+    -- past lo, the number before r lacks the property
+    not-after : m < r → lo < r → ⊥
+    not-after k j = clash (up m (r - 1) (omega arith) (l .holds)) (w .before (r - 1) (omega arith) (omega arith))
 
-    not-before : r < m → r < cap → ⊥
-    not-before h k = clash (w .here k) (l .none-before r (w .low) h)
+    not-before : r < m → r < hi → ⊥
+    not-before k j = clash (w .here j) (l .none-before r (omega (arith, w .low)) k)
 
-    by-cap : (r < m) → Dec (cap ≤ r) → r ≡ min cap m
-    by-cap h (yes k) = omega (arith, w .high)
-    by-cap h (no k) = absurd (not-before h (omega arith))
-
-    by-order : Dec (m ≤ r) → r ≡ min cap m
-    by-order (yes k) = ⊎-elim (λ (q : m ≡ r). omega (arith, w .high)) (λ (q : m < r). absurd (not-after q)) (eq-or-lt-of-le k)
-    by-order (no k) = by-cap (omega arith) (decLe cap r)
+    by-order : Dec (m ≤ r) → Dec (r ≤ lo) → Dec (hi ≤ r) → r ≡ max lo (min hi m)
+    by-order (yes k) (yes i) d = omega (arith, w .low, w .high)
+    by-order (yes k) (no i) d =
+        ⊎-elim (λ (q : m ≡ r). omega (arith, w .low, w .high)) (λ (q : m < r). absurd (not-after q (omega arith))) (eq-or-lt-of-le k)
+    by-order (no k) i (yes d) = omega (arith, w .low, w .high)
+    by-order (no k) i (no d) = absurd (not-before (omega arith) (omega arith))
 
 -- the halving search: one number is left; the middle has the property; the middle has it not
 pub within-one : (p : ℕ → Bool) (lo hi : ℕ) → lo ≡ hi → LeastWithin p lo hi lo

@@ -3,7 +3,7 @@
 use mathlib.Core.Path.{_≡_, sym, ap, subst, fun-ext, _∙_}
 use mathlib.Core.Bool.{Bool, true, false}
 use mathlib.Core.Logic.{_↔_}
-use Prim.Native.Nat.{ℕ, zero, suc, suc-le-suc, _+_, _-_, _*_, _/_, _^_, _≤_, _<_, min}
+use Prim.Native.Nat.{ℕ, zero, suc, suc-le-suc, _+_, _-_, _*_, _/_, _^_, _≤_, _<_, min, max}
 use native.Mathlib.Nat.{le-refl, le-of-suc-le-suc, lt-of-not-le, suc-mul, le-trans, mul-le-mul, mul-le-mul-left, pow-zero, pow-suc, pow-le-pow-left, pow-le-pow-right, one-le-pow, one-mul, mul-one, mul-comm, le-mul-of-pos-right, div-lt-iff-lt-mul, eq-zero-or-pos, zero-mul}
 use native.Mathlib.Omega.{arith}
 use native.Mathlib.Decide.{decLe}
@@ -23,7 +23,7 @@ pub pow-three : (m : ℕ) → m ^ 3 ≡ m * m * m
 pow-three m = pow-suc m 2 ∙ ap (λ (x : ℕ). x * m) (pow-two m)
 
 -- a power fits where its base and its exponent are small
-pub pow-bound : {m d : ℕ} → m ≤ 2 ^ 14 → d ≤ 3 → m ^ d ≤ 2 ^ 42
+pub pow-bound : {m d : ℕ} → m ≤ 2 ^ 15 → d ≤ 3 → m ^ d ≤ 2 ^ 45
 pow-bound {m} {d} hm hd = le-trans (pow-le-pow-left hm d) (pow-le-pow-right (omega arith) hd)
 
 pub growth-mono : (u d m n : ℕ) → m ≤ n → growth u d m ≤ growth u d n
@@ -71,8 +71,16 @@ module _ (k t x : ℕ) (hk : 1 ≤ k) where
       ceiling-by (yes h) = le-leb _ _ (ceiling-le h) ∙ sym (le-leb t (k * x) h)
       ceiling-by (no h) = lt-leb _ _ (ceiling-lt (omega arith)) ∙ sym (lt-leb t (k * x) (omega arith))
 
--- what the search finds for the quotient is the least number for the bound, as far as 4,097
-pub capped-least : (k u d t r : ℕ) → 1 ≤ k → t ≤ 2 ^ 60 → LeastWithin (λ (n : ℕ). leb ((t + (k - 1)) / k) (growth u d n)) 1 4097 r → r ≡ min 4097 (least (reaches k u d t))
-capped-least k u d t r hk ht w =
-    within-least (reaches k u d t) 4097 r (least (reaches k u d t)) (least-is (reaches k u d t) (reaches-findable k u d t hk ht))
-    (subst (λ (p : ℕ → Bool). LeastWithin p 1 4097 r) (fun-ext (λ n. ceiling k t (growth u d n) hk)) w)
+-- what the search finds for the quotient is the least number for the bound, as far as the span goes
+pub least-between :
+    (k u d t lo hi r : ℕ)
+    → 1 ≤ k
+    → t ≤ 2 ^ 60
+    → 1 ≤ lo
+    → lo ≤ hi
+    → LeastWithin (λ (n : ℕ). leb ((t + (k - 1)) / k) (growth u d n)) lo hi r
+    → r ≡ max lo (min hi (least (reaches k u d t)))
+least-between k u d t lo hi r hk ht one h w =
+    let f = reaches-findable k u d t hk ht in
+    within-least (reaches k u d t) lo hi r (least (reaches k u d t)) (f .rising) (least-is (reaches k u d t) f) one h
+    (subst (λ (p : ℕ → Bool). LeastWithin p lo hi r) (fun-ext (λ n. ceiling k t (growth u d n) hk)) w)

@@ -7,6 +7,9 @@ ghost use Rattle.planner.specs.Intervals.{interval-a, interval-b, interv
 ghost use Rattle.planner.specs.Outcome.{BoundInRange};
 ghost use Rattle.planner.specs.Inner.Capped.{Agrees, Carried, Figures, IntervalsAgree};
 
+// A plan has at most 4,096 samples, so a search need tell no numbers from here on apart.
+const CAP: u64 = 4097;
+
 pub(crate) struct Intervals {
     pub a: u64,
     pub b: u64,
@@ -34,42 +37,42 @@ fn carried(bound: u64, k: u64, n: u64) -> u64
     smaller(bound, k * n)
 }
 
+// Each search looks no further than the one before it found, and no lower than the interval may be. The
+// rule's last search stands first: its product is the cheapest, and it has the widest span.
 fn interval_a(w: u64, v: u64, acc: u64, j: u64, s: u64) -> u64
     requires { ⌜ Figures w v acc j s ⌝ }
     ensures { λ r. ⌜ Agrees 4097 4097 r (interval-a w v acc j s) ⌝ }
 {
-    let distance = least_interval(8 * s, 0, 3, w);
-    let velocity = least_interval(2 * s, 0, 2, v);
-    let acceleration = least_interval(s, 0, 1, acc);
-    let jerk = least_interval(s, 0, 0, j);
-    smaller(distance, smaller(velocity, smaller(acceleration, jerk)))
+    let by_jerk = least_interval(s, 0, 0, j, 1, CAP);
+    let by_acceleration = least_interval(s, 0, 1, acc, 1, by_jerk);
+    let by_velocity = least_interval(2 * s, 0, 2, v, 1, by_acceleration);
+    least_interval(8 * s, 0, 3, w, 1, by_velocity)
 }
 
 fn interval_b(w: u64, v: u64, acc: u64, j1: u64, a: u64) -> u64
-    requires { ⌜ (w ≤ 2 ^ 60) × BoundInRange v × BoundInRange acc × BoundInRange j1 × (a ≤ 4097) ⌝ }
+    requires { ⌜ (w ≤ 2 ^ 60) × BoundInRange v × BoundInRange acc × BoundInRange j1 × (1 ≤ a) × (a ≤ 4097) ⌝ }
     ensures { λ r. ⌜ Agrees 4097 4097 r (interval-b w v acc j1 a) ⌝ }
 {
-    let distance = least_interval(2 * j1, a, 2, w);
-    let velocity = least_interval(j1, a, 1, v);
-    let acceleration = least_interval(j1, a, 0, acc);
-    larger(a, smaller(distance, smaller(velocity, acceleration)))
+    let by_acceleration = least_interval(j1, a, 0, acc, a, CAP);
+    let by_velocity = least_interval(j1, a, 1, v, a, by_acceleration);
+    least_interval(2 * j1, a, 2, w, a, by_velocity)
 }
 
 fn interval_c(w: u64, v: u64, a1: u64, a: u64, b: u64) -> u64
-    requires { ⌜ (w ≤ 2 ^ 60) × BoundInRange v × BoundInRange a1 × (a ≤ 4097) × (b ≤ 4097) ⌝ }
+    requires { ⌜ (w ≤ 2 ^ 60) × BoundInRange v × BoundInRange a1 × (1 ≤ a) × (a ≤ 4097) × (b ≤ 4097) ⌝ }
     ensures { λ r. ⌜ Agrees 4097 8194 r (interval-c w v a1 a b) ⌝ }
 {
-    let distance = least_interval(a1, a + b, 1, w);
-    let velocity = least_interval(a1, a + b, 0, v);
-    larger(a + b, smaller(distance, velocity))
+    let ab = a + b;
+    let by_velocity = least_interval(a1, ab, 0, v, ab, larger(CAP, ab));
+    least_interval(a1, ab, 1, w, ab, by_velocity)
 }
 
 fn interval_e(w: u64, v1: u64, a: u64, b: u64, c: u64) -> u64
-    requires { ⌜ (w ≤ 2 ^ 60) × BoundInRange v1 × (a ≤ 4097) × (b ≤ 4097) × (c ≤ 8194) ⌝ }
+    requires { ⌜ (w ≤ 2 ^ 60) × BoundInRange v1 × (1 ≤ a) × (a ≤ 4097) × (b ≤ 4097) × (c ≤ 8194) ⌝ }
     ensures { λ r. ⌜ Agrees 4097 16388 r (interval-e w v1 a b c) ⌝ }
 {
-    let distance = least_interval(v1, 0, 0, w);
-    larger(a + b + c, distance)
+    let abc = a + b + c;
+    least_interval(v1, 0, 0, w, abc, larger(CAP, abc))
 }
 
 pub(crate) fn find_intervals(w: u64, v: u64, acc: u64, j: u64, s: u64) -> Intervals

@@ -1,13 +1,13 @@
 // The search for the least interval that reaches a target.
 ghost use mathlib.Core.Path.{_≡_};
-ghost use Prim.Native.Nat.{ℕ, _+_, _*_, _^_, _≤_, min};
+ghost use Prim.Native.Nat.{ℕ, _^_, _≤_, min, max};
 ghost use lib.Dec.{leb};
 ghost use Rattle.planner.specs.Least.{least};
 ghost use Rattle.planner.specs.Inner.Search.{growth, reaches, LeastWithin, SearchArgs, ReachArgs};
 
 // m^d. A match is quicker here than a loop: d is the same in all turns of a search.
 fn power(m: u64, d: u64) -> u64
-    requires { ⌜ (m ≤ 2 ^ 14) × (d ≤ 3) ⌝ }
+    requires { ⌜ (m ≤ 2 ^ 15) × (d ≤ 3) ⌝ }
     ensures { λ r. ⌜ r ≡ m ^ d ⌝ }
 {
     match d {
@@ -36,11 +36,11 @@ fn search(u: u64, d: u64, t: u64, lo: u64, hi: u64) -> u64
     }
 }
 
-// The least n with k·n·(u+n)^d ≥ t, or 4,097 where no n up to 4,096 has it: a plan has at most 4,096
-// samples. One division takes the bound k to the other side, so that no product passes 64 bits.
-pub(crate) fn least_interval(k: u64, u: u64, d: u64, t: u64) -> u64
-    requires { ⌜ ReachArgs 4097 k u d t ⌝ }
-    ensures { λ r. ⌜ r ≡ min 4097 (least (reaches k u d t)) ⌝ }
+// The least n from lo on with k·n·(u+n)^d ≥ t, or hi where there is none below it. One division takes
+// the bound k to the other side, so that no product passes 64 bits.
+pub(crate) fn least_interval(k: u64, u: u64, d: u64, t: u64, lo: u64, hi: u64) -> u64
+    requires { ⌜ ReachArgs 4097 k u d t lo hi ⌝ }
+    ensures { λ r. ⌜ r ≡ max lo (min hi (least (reaches k u d t))) ⌝ }
 {
-    search(u, d, (t + (k - 1)) / k, 1, 4097)
+    search(u, d, (t + (k - 1)) / k, lo, hi)
 }

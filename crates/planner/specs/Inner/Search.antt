@@ -17,17 +17,17 @@ pub record LeastWithin (p : ℕ → Bool) (lo hi r : ℕ) : Type 0 where
   pub before : (n : ℕ) → lo ≤ n → n < r → p n ≡ false
   pub here : r < hi → p r ≡ true
 
--- The arguments of the search up to cap: small enough that no product leaves 64 bits.
+-- The arguments of a search: small enough that no product leaves 64 bits. The span ends at four times the cap at most.
 pub record SearchArgs (cap u d lo hi : ℕ) : Type 0 where
   pub offset : u ≤ 2 * cap
   pub degree : d ≤ 3
   pub ordered : lo ≤ hi
-  pub top : hi ≤ cap
+  pub top : hi ≤ 4 * cap
 
 -- The arguments of one of the ten: k·n·(u+n)^d is to reach t.
-pub record ReachArgs (cap k u d t : ℕ) : Type 0 where
+pub record ReachArgs (cap k u d t lo hi : ℕ) : Type 0 where
   pub bound : 1 ≤ k
   pub bound-top : k ≤ 2 ^ 53
-  pub offset : u ≤ 2 * cap
-  pub degree : d ≤ 3
   pub target : t ≤ 2 ^ 60
+  pub from-one : 1 ≤ lo
+  pub span : SearchArgs cap u d lo hi

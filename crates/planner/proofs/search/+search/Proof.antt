@@ -76,9 +76,9 @@ search-mul-reached : (t : ℕ) → search-lts.Need-mul-reached (
 search-mul-reached t c =
     let a = c .before .before .args in
     let mid : ℕ = a .lo + (a .hi - a .lo) / 2 in
-    let small : mid ≤ 4097 = omega arith in
-    let bound : (a .u + mid) ^ a .d ≤ 2 ^ 42 = pow-bound (omega arith) (omega arith) in
-    let product : mid * (c .power .result) ≤ 4097 * 2 ^ 42 = rw (c .power .ensures) (mul-le-mul small bound) in
+    let small : mid ≤ 16388 = omega arith in
+    let bound : (a .u + mid) ^ a .d ≤ 2 ^ 45 = pow-bound (omega arith) (omega arith) in
+    let product : mid * (c .power .result) ≤ 16388 * 2 ^ 45 = rw (c .power .ensures) (mul-le-mul small bound) in
     omega (arith, product)
 
 search-search-requires : (t : ℕ) → search-lts.Need-search-requires (

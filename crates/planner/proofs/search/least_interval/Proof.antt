@@ -1,4 +1,4 @@
-use Rattle.planner.proofs.ReachLaws.{capped-least}
+use Rattle.planner.proofs.ReachLaws.{least-between}
 use borrow.Author.Needs.{needs}
 use Rattle.planner.proofs.search.least_interval.Statement.{statement}
 use Rattle.planner.proofs.search.least_interval.Tie as tie
@@ -26,7 +26,8 @@ search-requires c κs = search needs
 returns : tie.Need-returns
 returns c =
     let a = c .before .args in
-    capped-least (a .k) (a .u) (a .d) (a .t) (c .search .result) (c .before .pre .bound) (c .before .pre .target) (c .search .ensures)
+    let p = c .before .pre in
+    least-between (a .k) (a .u) (a .d) (a .t) (a .lo) (a .hi) (c .search .result) (p .bound) (p .target) (p .from-one) (p .span .ordered) (c .search .ensures)
 
 pub least-interval-spec : {M : Type 1} → statement M
 least-interval-spec = tie.close (tie.spec sub-search add-search div-search search-requires returns)
