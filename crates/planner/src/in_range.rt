@@ -11,19 +11,20 @@ ghost use Rattle.planner.specs.Inner.Capped.{Figures, planWithin};
 // The most samples that a move may take.
 const MOST_SAMPLES: u64 = 4096;
 
-// D, the size of the snap: W over P, rounded down, so that no bound and not the end is passed.
-fn snap_size(w: u64, p: u64) -> u64
-    requires { ⌜ 1 ≤ p ⌝ }
-    ensures { λ r. ⌜ r ≡ w / p ⌝ }
-{
-    w / p
+struct Division {
+    pub snap: u64,
+    pub shortfall: u64,
 }
 
-fn shortfall(w: u64, d: u64, p: u64) -> u64
-    requires { ⌜ d * p ≤ w ⌝ }
-    ensures { λ r. ⌜ r ≡ w - d * p ⌝ }
+// D, the size of the snap, is W over P rounded down, so that neither a bound nor the end is passed. The
+// shortfall is what that leaves of W.
+fn divide(w: u64, p: u64) -> Division
+    requires { ⌜ 1 ≤ p ⌝ }
+    ensures { λ r. ⌜ (r .snap ≡ w / p) × (r .shortfall ≡ w - w / p * p) ⌝ }
 {
-    w - d * p
+    let snap = w / p;
+    let shortfall = w % p;
+    Division { snap, shortfall }
 }
 
 pub(crate) fn plan_in_range(w: u64, v: u64, acc: u64, j: u64, s: u64) -> PlanAnswer
@@ -38,14 +39,13 @@ pub(crate) fn plan_in_range(w: u64, v: u64, acc: u64, j: u64, s: u64) -> PlanAns
     if MOST_SAMPLES < a + b + c + e {
         return PlanAnswer::Refused(Refusal::TooManySamples);
     }
-    let p = a * b * c * e;
-    let snap = snap_size(w, p);
+    let d = divide(w, a * b * c * e);
     PlanAnswer::Planned(Plan {
         a,
         b,
         c,
         e,
-        snap,
-        shortfall: shortfall(w, snap, p),
+        snap: d.snap,
+        shortfall: d.shortfall,
     })
 }

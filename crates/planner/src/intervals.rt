@@ -2,7 +2,7 @@
 // but never below 4,097: such a move is refused either way.
 use crate::search::least_interval;
 ghost use mathlib.Core.Path.{_≡_};
-ghost use Prim.Native.Nat.{_+_, _*_, _^_, _≤_, min, max};
+ghost use Prim.Native.Nat.{_^_, _≤_, max};
 ghost use Rattle.planner.specs.Intervals.{interval-a, interval-b, interval-c, interval-e};
 ghost use Rattle.planner.specs.Outcome.{BoundInRange};
 ghost use Rattle.planner.specs.Inner.Capped.{Agrees, Carried, Figures, IntervalsAgree};
@@ -17,12 +17,6 @@ pub(crate) struct Intervals {
     pub e: u64,
 }
 
-fn smaller(x: u64, y: u64) -> u64
-    ensures { λ r. ⌜ r ≡ min x y ⌝ }
-{
-    if x < y { x } else { y }
-}
-
 fn larger(x: u64, y: u64) -> u64
     ensures { λ r. ⌜ r ≡ max x y ⌝ }
 {
@@ -34,7 +28,8 @@ fn carried(bound: u64, k: u64, n: u64) -> u64
     requires { ⌜ BoundInRange bound × BoundInRange k × (1 ≤ n) × (n ≤ 8194) ⌝ }
     ensures { λ r. ⌜ Carried bound k n r ⌝ }
 {
-    smaller(bound, k * n)
+    let reached = k * n;
+    if reached < bound { reached } else { bound }
 }
 
 // Each search looks no further than the one before it found, and no lower than the interval may be. The

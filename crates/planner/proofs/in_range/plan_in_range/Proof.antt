@@ -34,27 +34,24 @@ add-if1-3 c = search needs
 returns : tie.Need-returns
 returns c = too-long _ _ _ _ _ _ _ _ _ (c .before .find-intervals .ensures) (c .if1 .taken)
 
-mul-p : tie.Need-mul-p
-mul-p c = omega (arith, mul-le-mul (small c .a) (small c .b))
+mul-divide : tie.Need-mul-divide
+mul-divide c = omega (arith, mul-le-mul (small c .a) (small c .b))
 
-mul-p-2 : tie.Need-mul-p-2
-mul-p-2 c = omega (arith, mul-le-mul (mul-le-mul (small c .a) (small c .b)) (small c .c))
+mul-divide-2 : tie.Need-mul-divide-2
+mul-divide-2 c = omega (arith, mul-le-mul (mul-le-mul (small c .a) (small c .b)) (small c .c))
 
-mul-p-3 : tie.Need-mul-p-3
-mul-p-3 c = omega (arith, mul-le-mul (mul-le-mul (mul-le-mul (small c .a) (small c .b)) (small c .c)) (small c .e))
+mul-divide-3 : tie.Need-mul-divide-3
+mul-divide-3 c = omega (arith, mul-le-mul (mul-le-mul (mul-le-mul (small c .a) (small c .b)) (small c .c)) (small c .e))
 
-snap-size-requires : tie.Need-snap-size-requires
-snap-size-requires c κs =
+divide-requires : tie.Need-divide-requires
+divide-requires c κs =
     let p = c .before .find-intervals .ensures .positive in
     mul-pos (mul-pos (mul-pos (p .0) (p .1)) (p .2)) (p .3)
 
-shortfall-requires : tie.Need-shortfall-requires
-shortfall-requires c κs = rw (c .snap-size .ensures) (div-mul-le-self _ _)
-
 returns-2 : tie.Need-returns-2
 returns-2 c =
-    let at-plan = c .before .before in
-    rw (c .shortfall .ensures, c .before .snap-size .ensures)
+    let at-plan = c .before in
+    rw (c .divide .ensures .0, c .divide .ensures .1)
     (planned-within _ _ _ _ _ _ _ _ _ (at-plan .before .find-intervals .ensures) (at-plan .if1 .left))
 
 pub plan-in-range-spec : {M : Type 1} → statement M
@@ -66,9 +63,8 @@ plan-in-range-spec =
     add-if1-2
     add-if1-3
     returns
-    mul-p
-    mul-p-2
-    mul-p-3
-    snap-size-requires
-    shortfall-requires
+    mul-divide
+    mul-divide-2
+    mul-divide-3
+    divide-requires
     returns-2)
