@@ -1,9 +1,10 @@
-# run: plans the moves of an example and prints the answers. test: the gate.
+# run: plans the moves of the paper's table, as they stand at the head of the stored vectors.
+# test: the gate.
 .PHONY: run test
 
 run:
 	rt check planner_vectors
-	./target/bin/planner_vectors < examples/moves.txt
+	head -n 16 crates/planner_vectors/stdin | ./target/bin/planner_vectors
 
 test:
 	./.ci/run

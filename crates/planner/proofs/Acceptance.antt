@@ -2,7 +2,7 @@
 -- Assumes nothing.
 use mathlib.Core.Path.{_≡_, refl, sym, subst, _∙_}
 use mathlib.Core.Bool.{Bool, true, false}
-use mathlib.Core.List.{List, [], _∷_}
+use mathlib.Core.List.{List, _∷_}
 use mathlib.Core.Logic.{_↔_}
 use Prim.Native.Nat.{ℕ}
 use native.Mathlib.Nat.{pos-of-ne-zero}
@@ -10,34 +10,31 @@ use native.Mathlib.Omega.{arith}
 use borrow.Author.Tests.{ne-eqb, le-ltb, ltb-false, eqb-false}
 use lib.IntN.{ℤ, natAbs}
 use Rattle.planner.specs.Quantities.{distance}
-use Rattle.planner.specs.Intervals.{a, b, c, e}
-use Rattle.planner.specs.Outcome.{Outcome, refused, Check, firstRefusal, mostCounts, mostSamples, samplesOf, planOf, outcomeOf, Plans, Accepted, IsPlanned}
-use Rattle.planner.proofs.RefusalLaws.{bound-in-range, bound-passes, passed-all}
+use Rattle.planner.specs.Outcome.{Outcome, Check, check, firstRefusal, mostCounts, mostSamples, samplesOf, rulePlan, outcomeOf, Plans}
+use Rattle.planner.specs.Accepted.{Accepted, IsPlanned}
+use Rattle.planner.proofs.RefusalLaws.{skip, none-left, plans, bound-in-range, bound-passes}
 
 -- a plan passes each check
-record Passes (x : Check) (xs : List Check) (o : Outcome) : Type 0 where
-  not-here : x .applies ≡ false
+record Passes (t : Bool) (xs : List Check) (o : Outcome) : Type 0 where
+  not-here : t ≡ false
   rest : IsPlanned (firstRefusal xs o)
 
-passes : (x : Check) (xs : List Check) (o : Outcome) → IsPlanned (firstRefusal (x ∷ xs) o) → Passes x xs o
+passes : (n : ℕ) (t : Bool) (xs : List Check) (o : Outcome) → IsPlanned (firstRefusal (check n t ∷ xs) o) → Passes t xs o
 unfolding firstRefusal
-passes x xs o h = by (x .applies) refl h
-  where
-    by : (t : Bool) → x .applies ≡ t → IsPlanned (elim t [ true ↦ refused (x .number) | false ↦ firstRefusal xs o ]) → Passes x xs o
-    by true e p = absurd p
-    by false e p = record { not-here = e; rest = p }
+passes n true xs o h = absurd h
+passes n false xs o h = record { not-here = refl; rest = h }
 
 module _ (X : ℤ) (V₀ A₀ J₀ S₀ : ℕ) where
   planned-accepted : IsPlanned (outcomeOf X V₀ A₀ J₀ S₀) → Accepted X V₀ A₀ J₀ S₀
   unfolding outcomeOf
   planned-accepted h =
-      let c₁ = passes _ _ _ h in
-      let c₂ = passes _ _ _ (c₁ .rest) in
-      let c₃ = passes _ _ _ (c₂ .rest) in
-      let c₄ = passes _ _ _ (c₃ .rest) in
-      let c₅ = passes _ _ _ (c₄ .rest) in
-      let c₆ = passes _ _ _ (c₅ .rest) in
-      let c₇ = passes _ _ _ (c₆ .rest) in
+      let c₁ = passes _ _ _ _ h in
+      let c₂ = passes _ _ _ _ (c₁ .rest) in
+      let c₃ = passes _ _ _ _ (c₂ .rest) in
+      let c₄ = passes _ _ _ _ (c₃ .rest) in
+      let c₅ = passes _ _ _ _ (c₄ .rest) in
+      let c₆ = passes _ _ _ _ (c₅ .rest) in
+      let c₇ = passes _ _ _ _ (c₆ .rest) in
       record {
         in-range =
             record {
@@ -55,18 +52,19 @@ module _ (X : ℤ) (V₀ A₀ J₀ S₀ : ℕ) where
   pub accepted-outcome :
       Accepted X V₀ A₀ J₀ S₀
       → outcomeOf X V₀ A₀ J₀ S₀
-      ≡ planOf (distance X) (a (distance X) V₀ A₀ J₀ S₀) (b (distance X) V₀ A₀ J₀ S₀) (c (distance X) V₀ A₀ J₀ S₀) (e (distance X) V₀ A₀ J₀ S₀)
+      ≡ rulePlan (distance X) V₀ A₀ J₀ S₀
   accepted-outcome h =
       let i = h .in-range in
       sym
-      (passed-all X V₀ A₀ J₀ S₀
-      (ne-eqb (natAbs X) 0 (λ q. omega (arith, i .moves)))
-      (le-ltb mostCounts (natAbs X) (i .near))
-      (bound-passes V₀ (i .velocity))
-      (bound-passes A₀ (i .acceleration))
-      (bound-passes J₀ (i .jerk))
-      (bound-passes S₀ (i .snap))
-      (le-ltb mostSamples (samplesOf (distance X) V₀ A₀ J₀ S₀) (h .short-enough)))
+      (plans {X = X}
+      (skip (ne-eqb (natAbs X) 0 (λ q. omega (arith, i .moves)))
+      (skip (le-ltb mostCounts (natAbs X) (i .near))
+      (skip (bound-passes V₀ (i .velocity))
+      (skip (bound-passes A₀ (i .acceleration))
+      (skip (bound-passes J₀ (i .jerk))
+      (skip (bound-passes S₀ (i .snap))
+      (skip (le-ltb mostSamples (samplesOf (distance X) V₀ A₀ J₀ S₀) (h .short-enough)) none-left)))))))
+      .outcome-is)
 
   pub acceptance : (o : Outcome) → Plans X V₀ A₀ J₀ S₀ o → IsPlanned o ↔ Accepted X V₀ A₀ J₀ S₀
   acceptance o h = (

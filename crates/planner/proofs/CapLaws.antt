@@ -3,7 +3,7 @@
 use mathlib.Core.Path.{_≡_, refl, sym, ap, ap₂, subst, _∙_}
 use mathlib.Core.Bool.{Bool}
 use mathlib.Core.Logic.{_⊎_, inl, inr, ⊎-elim}
-use Prim.Native.Nat.{ℕ, _+_, _*_, _≤_, _<_, min, max}
+use Prim.Native.Nat.{ℕ, _*_, _≤_, _<_, min, max}
 use native.Mathlib.Nat.{max-min-distrib-left, max-eq-right}
 use native.Mathlib.Omega.{arith}
 use native.Mathlib.Decide.{decLt}
@@ -12,7 +12,6 @@ use Rattle.planner.specs.Intervals.{interval-a, interval-b, interval-c, 
 use Rattle.planner.specs.Durations.{N}
 use Rattle.planner.specs.Outcome.{samplesOf}
 use Rattle.planner.specs.Inner.Capped.{Agrees, Carried, IntervalsAgree}
-use Rattle.planner.proofs.LeastLaws.{least-positive}
 
 -- x is m, but not below lo and not above hi
 pub record Between (lo hi x m : ℕ) : Type 0 where

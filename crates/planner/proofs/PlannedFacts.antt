@@ -9,13 +9,14 @@ use Rattle.planner.specs.Quantities.{distance}
 use Rattle.planner.specs.Least.{least}
 use Rattle.planner.specs.Intervals.{a, b, c, e, J₁, A₁, V₁, interval-e, e-distance}
 use Rattle.planner.specs.Durations.{D}
-use Rattle.planner.specs.Outcome.{Outcome, refused, planned, samplesOf, planOf, Plans, Accepted}
+use Rattle.planner.specs.Outcome.{Outcome, refused, planned, samplesOf, rulePlan, Plans}
+use Rattle.planner.specs.Accepted.{Accepted}
 use Rattle.planner.specs.Inner.Capped.{Figures}
 use Rattle.planner.specs.Facts.{PlanFacts, KeepsBounds}
 use Rattle.planner.proofs.Acceptance.{acceptance, accepted-outcome}
 use Rattle.planner.proofs.BoundLaws.{ordered, durations, product-positive, keeps-bounds}
 use Rattle.planner.proofs.ProductBound.{product-bound}
-use Rattle.planner.proofs.TenLeastNumbers.{figures, ten-least}
+use Rattle.planner.proofs.TenLeastNumbers.{figures, ten-least-by, ten-least}
 
 -- each interval covers the bound that was carried on to it, and the last the whole distance
 module _ (W V₀ A₀ J₀ S₀ : ℕ) where
@@ -34,7 +35,7 @@ module _ (W V₀ A₀ J₀ S₀ : ℕ) where
   covers-W : Figures W V₀ A₀ J₀ S₀ → W ≤ V₁ W V₀ A₀ J₀ S₀ * e W V₀ A₀ J₀ S₀
   unfolding e interval-e
   covers-W f =
-      le-trans (leb-true W (V₁ W V₀ A₀ J₀ S₀ * least (e-distance W (V₁ W V₀ A₀ J₀ S₀))) (ten-least f .e-distance .holds))
+      le-trans (leb-true W (V₁ W V₀ A₀ J₀ S₀ * least (e-distance W (V₁ W V₀ A₀ J₀ S₀))) (ten-least-by f .e-distance .holds))
       (mul-le-mul-left (V₁ W V₀ A₀ J₀ S₀) (le-max-right _ _))
 
   rule-bounds :
@@ -63,7 +64,7 @@ module _ {X : ℤ} {V₀ A₀ J₀ S₀ : ℕ} where
   rule-facts :
       Accepted X V₀ A₀ J₀ S₀
       → FactsOf X V₀ A₀ J₀ S₀
-      (planOf (distance X) (a (distance X) V₀ A₀ J₀ S₀) (b (distance X) V₀ A₀ J₀ S₀) (c (distance X) V₀ A₀ J₀ S₀) (e (distance X) V₀ A₀ J₀ S₀))
+      (rulePlan (distance X) V₀ A₀ J₀ S₀)
   unfolding samplesOf
   rule-facts h =
       let o = ordered (distance X) V₀ A₀ J₀ S₀ in
@@ -82,7 +83,7 @@ module _ {X : ℤ} {V₀ A₀ J₀ S₀ : ℕ} where
         shortfall-below = below _ _ (product-positive o);
         whole = whole _ _;
         bounds = rule-bounds (distance X) V₀ A₀ J₀ S₀ f;
-        ten-least = ten-least f;
+        ten-least = ten-least (h .in-range);
       }
 
   pub planned-facts : {a b c e D short : ℕ} → Plans X V₀ A₀ J₀ S₀ (planned a b c e D short) → PlanFacts X V₀ A₀ J₀ S₀ a b c e D short

@@ -1,14 +1,14 @@
 -- Laws of n·(u+n)^d: small powers, bounds, growth with n, and the division that takes a bound to the other side.
 -- Assumes nothing.
 use mathlib.Core.Path.{_≡_, sym, ap, subst, fun-ext, _∙_}
-use mathlib.Core.Bool.{Bool, true, false}
+use mathlib.Core.Bool.{Bool, true}
 use mathlib.Core.Logic.{_↔_}
 use Prim.Native.Nat.{ℕ, zero, suc, suc-le-suc, _+_, _-_, _*_, _/_, _^_, _≤_, _<_, min, max}
-use native.Mathlib.Nat.{le-refl, le-of-suc-le-suc, lt-of-not-le, suc-mul, le-trans, mul-le-mul, mul-le-mul-left, pow-zero, pow-suc, pow-le-pow-left, pow-le-pow-right, one-le-pow, one-mul, mul-one, mul-comm, le-mul-of-pos-right, div-lt-iff-lt-mul, eq-zero-or-pos, zero-mul}
+use native.Mathlib.Nat.{le-of-suc-le-suc, lt-of-not-le, suc-mul, le-trans, mul-le-mul, mul-le-mul-left, pow-zero, pow-suc, pow-le-pow-left, pow-le-pow-right, one-le-pow, one-mul, mul-comm, le-mul-of-pos-right, div-lt-iff-lt-mul}
 use native.Mathlib.Omega.{arith}
 use native.Mathlib.Decide.{decLe}
 use lib.Dec.{leb}
-use borrow.Author.Tests.{le-leb, lt-leb, leb-true, leb-false}
+use borrow.Author.Tests.{le-leb, lt-leb, leb-true}
 use Rattle.planner.specs.Least.{least}
 use Rattle.planner.specs.Inner.Search.{growth, reaches, LeastWithin}
 use Rattle.planner.proofs.LeastLaws.{Rising, Findable, least-is, within-least}

@@ -1,6 +1,6 @@
--- Laws of the checks: each refusal follows from the tests that led there, and what is left of the rule from all of them.
+-- Laws of the checks: what they come to, one after the other.
 -- Assumes nothing.
-use mathlib.Core.Path.{_≡_, refl, sym, _∙_}
+use mathlib.Core.Path.{_≡_, refl, sym}
 use mathlib.Core.Bool.{Bool, true, false, _||_, true≢false}
 use mathlib.Core.List.{List, [], _∷_}
 use Prim.Native.Nat.{ℕ, _≤_, _<_}
@@ -8,72 +8,35 @@ use native.Mathlib.Nat.{pos-of-ne-zero}
 use native.Mathlib.Omega.{arith}
 use borrow.Author.Tests.{lt-ltb, le-ltb, ne-eqb, ltb-false, eqb-false}
 use lib.Dec.{eqb, ltb}
-use lib.IntN.{ℤ, natAbs}
+use lib.IntN.{ℤ}
 use Rattle.planner.specs.Quantities.{distance}
-use Rattle.planner.specs.Outcome.{Outcome, refused, Check, firstRefusal, outOfRange, mostCounts, mostBound, mostSamples, BoundInRange, samplesOf, planOf, outcomeOf, Plans}
-use Rattle.planner.specs.Intervals.{a, b, c, e}
+use Rattle.planner.specs.Outcome.{Outcome, refused, Check, check, firstRefusal, checks, outOfRange, mostBound, mostSamples, samplesOf, planOf, rulePlan, outcomeOf, Plans}
+use Rattle.planner.specs.Accepted.{BoundInRange}
 use Rattle.planner.specs.Durations.{N}
 use Rattle.planner.specs.Inner.Capped.{planWithin, IntervalsAgree}
 
 -- p is what the checks xs leave of the outcome o
-record Gives (xs : List Check) (o p : Outcome) : Type 0 where
-  is : p ≡ firstRefusal xs o
+pub record Gives (xs : List Check) (o p : Outcome) : Type 0 where
+  pub is : p ≡ firstRefusal xs o
 
 -- a check that applies, and one that does not
-stop : {x : Check} {xs : List Check} {o : Outcome} → x .applies ≡ true → Gives (x ∷ xs) o (refused (x .number))
+pub stop : {n : ℕ} {t : Bool} {xs : List Check} {o : Outcome} → t ≡ true → Gives (check n t ∷ xs) o (refused n)
 unfolding firstRefusal
-stop {x} {xs} {o} h = record { is = rw h }
+stop {t = true} h = record { is = refl }
+stop {t = false} h = absurd (true≢false (sym h))
 
-skip : {x : Check} {xs : List Check} {o p : Outcome} → x .applies ≡ false → Gives xs o p → Gives (x ∷ xs) o p
+pub skip : {n : ℕ} {t : Bool} {xs : List Check} {o p : Outcome} → t ≡ false → Gives xs o p → Gives (check n t ∷ xs) o p
 unfolding firstRefusal
-skip {x} {xs} {o} {p} h g = record { is = rw h (g .is) }
+skip {t = true} h g = absurd (true≢false h)
+skip {t = false} h g = record { is = g .is }
 
-none-left : {o : Outcome} → Gives [] o o
+pub none-left : {o : Outcome} → Gives [] o o
 unfolding firstRefusal
 none-left = record { is = refl }
 
-module _ (X : ℤ) (V₀ A₀ J₀ S₀ : ℕ) where
-  pub refused-1 : eqb (natAbs X) 0 ≡ true → Plans X V₀ A₀ J₀ S₀ (refused 1)
-  unfolding outcomeOf
-  refused-1 t = record { outcome-is = stop t .is }
-
-  module _ (moves : eqb (natAbs X) 0 ≡ false) where
-    pub refused-2 : ltb mostCounts (natAbs X) ≡ true → Plans X V₀ A₀ J₀ S₀ (refused 2)
-    unfolding outcomeOf
-    refused-2 t = record { outcome-is = skip moves (stop t) .is }
-
-    module _ (near : ltb mostCounts (natAbs X) ≡ false) where
-      pub refused-3 : outOfRange V₀ ≡ true → Plans X V₀ A₀ J₀ S₀ (refused 3)
-      unfolding outcomeOf
-      refused-3 t = record { outcome-is = skip moves (skip near (stop t)) .is }
-
-      module _ (velocity : outOfRange V₀ ≡ false) where
-        pub refused-4 : outOfRange A₀ ≡ true → Plans X V₀ A₀ J₀ S₀ (refused 4)
-        unfolding outcomeOf
-        refused-4 t = record { outcome-is = skip moves (skip near (skip velocity (stop t))) .is }
-
-        module _ (acceleration : outOfRange A₀ ≡ false) where
-          pub refused-5 : outOfRange J₀ ≡ true → Plans X V₀ A₀ J₀ S₀ (refused 5)
-          unfolding outcomeOf
-          refused-5 t = record { outcome-is = skip moves (skip near (skip velocity (skip acceleration (stop t)))) .is }
-
-          module _ (jerk : outOfRange J₀ ≡ false) where
-            pub refused-6 : outOfRange S₀ ≡ true → Plans X V₀ A₀ J₀ S₀ (refused 6)
-            unfolding outcomeOf
-            refused-6 t = record { outcome-is = skip moves (skip near (skip velocity (skip acceleration (skip jerk (stop t))))) .is }
-
-            pub passed-all :
-                outOfRange S₀ ≡ false
-                → ltb mostSamples (samplesOf (distance X) V₀ A₀ J₀ S₀) ≡ false
-                → planOf (distance X) (a (distance X) V₀ A₀ J₀ S₀) (b (distance X) V₀ A₀ J₀ S₀) (c (distance X) V₀ A₀ J₀ S₀) (e (distance X) V₀ A₀ J₀ S₀)
-                ≡ outcomeOf X V₀ A₀ J₀ S₀
-            unfolding outcomeOf
-            passed-all snap samples =
-                skip moves (skip near (skip velocity (skip acceleration (skip jerk (skip snap (skip samples none-left)))))) .is
-
-            pub within : outOfRange S₀ ≡ false → planWithin (distance X) V₀ A₀ J₀ S₀ ≡ outcomeOf X V₀ A₀ J₀ S₀
-            unfolding outcomeOf planWithin
-            within snap = skip moves (skip near (skip velocity (skip acceleration (skip jerk (skip snap (record { is = refl })))))) .is
+pub plans : {X : ℤ} {V₀ A₀ J₀ S₀ : ℕ} {p : Outcome} → Gives (checks X V₀ A₀ J₀ S₀) (rulePlan (distance X) V₀ A₀ J₀ S₀) p → Plans X V₀ A₀ J₀ S₀ p
+unfolding outcomeOf
+plans g = record { outcome-is = g .is }
 
 -- a bound that is not out of range is in range
 or-false : (x y : Bool) → (x || y) ≡ false → (x ≡ false) × (y ≡ false)

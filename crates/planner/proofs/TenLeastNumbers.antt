@@ -2,13 +2,13 @@
 use mathlib.Core.Path.{_≡_, subst}
 use mathlib.Core.Bool.{Bool}
 use Prim.Native.Nat.{ℕ, _*_, _^_, _≤_, min}
-use native.Mathlib.Nat.{one-le-mul, min-le-left, min-le-right}
+use native.Mathlib.Nat.{one-le-mul}
 use native.Mathlib.Omega.{arith}
-use lib.IntN.{ℤ, natAbs}
-use Rattle.planner.specs.Quantities.{distance, unitsPerCount}
+use lib.IntN.{ℤ}
+use Rattle.planner.specs.Quantities.{distance}
 use Rattle.planner.specs.Least.{least, IsLeast}
 use Rattle.planner.specs.Intervals.{a, b, c, e, J₁, A₁, V₁}
-use Rattle.planner.specs.Outcome.{InRange}
+use Rattle.planner.specs.Accepted.{InRange}
 use Rattle.planner.specs.Inner.Search.{reaches}
 use Rattle.planner.specs.Inner.Capped.{Figures}
 use Rattle.planner.specs.Facts.{Found, TenLeast, Ordered}
@@ -46,8 +46,8 @@ module _ {W V₀ A₀ J₀ S₀ : ℕ} (f : Figures W V₀ A₀ J₀ S₀) where
   unfolding V₁
   one-V₁ = carried V₀ (A₁ W V₀ A₀ J₀ S₀) _ (f .velocity .at-least) one-A₁ (omega (arith, order .one-a, order .ab-c))
 
-  pub ten-least : TenLeast W V₀ A₀ J₀ S₀ (a W V₀ A₀ J₀ S₀) (b W V₀ A₀ J₀ S₀) (J₁ W V₀ A₀ J₀ S₀) (A₁ W V₀ A₀ J₀ S₀) (V₁ W V₀ A₀ J₀ S₀)
-  ten-least =
+  pub ten-least-by : TenLeast W V₀ A₀ J₀ S₀
+  ten-least-by =
       let one-S = f .snap .at-least in
       let V-top : V₀ ≤ 2 ^ 60 = omega (arith, f .velocity .at-most) in
       let A-top : A₀ ≤ 2 ^ 60 = omega (arith, f .acceleration .at-most) in
@@ -64,3 +64,6 @@ module _ {W V₀ A₀ J₀ S₀ : ℕ} (f : Figures W V₀ A₀ J₀ S₀) where
         c-velocity = found _ _ 0 V₀ (c-velocity-form V₀ _ (a W V₀ A₀ J₀ S₀) (b W V₀ A₀ J₀ S₀)) one-A₁ V-top;
         e-distance = found _ 0 0 W (e-distance-form W _) one-V₁ (f .distance);
       }
+
+pub ten-least : {X : ℤ} {V₀ A₀ J₀ S₀ : ℕ} → InRange X V₀ A₀ J₀ S₀ → TenLeast (distance X) V₀ A₀ J₀ S₀
+ten-least h = ten-least-by (figures h)

@@ -8,24 +8,41 @@ use Rattle.planner.specs.Quantities.{distance}
 use Rattle.planner.specs.Least.{least, IsLeast}
 use Rattle.planner.specs.Intervals as rule
 use Rattle.planner.specs.Durations.{p, q, r, s, N, P}
-use Rattle.planner.specs.Outcome.{Accepted, mostSamples}
+use Rattle.planner.specs.Outcome.{mostSamples}
+use Rattle.planner.specs.Accepted.{Accepted}
 
 -- What `least` gives is the least.
 abbrev pub Found : (ℕ → Bool) → Type 0
 Found property = IsLeast property (least property)
 
 -- The ten least numbers of a move with distance W.
-pub record TenLeast (W V₀ A₀ J₀ S₀ : ℕ) (a b J₁ A₁ V₁ : ℕ) : Type 0 where
-  pub a-distance : Found (rule.a-distance W S₀)
-  pub a-velocity : Found (rule.a-velocity V₀ S₀)
-  pub a-acceleration : Found (rule.a-acceleration A₀ S₀)
-  pub a-jerk : Found (rule.a-jerk J₀ S₀)
-  pub b-distance : Found (rule.b-distance W J₁ a)
-  pub b-velocity : Found (rule.b-velocity V₀ J₁ a)
-  pub b-acceleration : Found (rule.b-acceleration A₀ J₁)
-  pub c-distance : Found (rule.c-distance W A₁ a b)
-  pub c-velocity : Found (rule.c-velocity V₀ A₁)
-  pub e-distance : Found (rule.e-distance W V₁)
+module _ (W V₀ A₀ J₀ S₀ : ℕ) where
+  abbrev a : ℕ
+  a = rule.a W V₀ A₀ J₀ S₀
+
+  abbrev b : ℕ
+  b = rule.b W V₀ A₀ J₀ S₀
+
+  abbrev J₁ : ℕ
+  J₁ = rule.J₁ W V₀ A₀ J₀ S₀
+
+  abbrev A₁ : ℕ
+  A₁ = rule.A₁ W V₀ A₀ J₀ S₀
+
+  abbrev V₁ : ℕ
+  V₁ = rule.V₁ W V₀ A₀ J₀ S₀
+
+  pub record TenLeast : Type 0 where
+    pub a-distance : Found (rule.a-distance W S₀)
+    pub a-velocity : Found (rule.a-velocity V₀ S₀)
+    pub a-acceleration : Found (rule.a-acceleration A₀ S₀)
+    pub a-jerk : Found (rule.a-jerk J₀ S₀)
+    pub b-distance : Found (rule.b-distance W J₁ a)
+    pub b-velocity : Found (rule.b-velocity V₀ J₁ a)
+    pub b-acceleration : Found (rule.b-acceleration A₀ J₁)
+    pub c-distance : Found (rule.c-distance W A₁ a b)
+    pub c-velocity : Found (rule.c-velocity V₀ A₁)
+    pub e-distance : Found (rule.e-distance W V₁)
 
 -- The intervals follow each other.
 pub record Ordered (a b c e : ℕ) : Type 0 where
@@ -62,6 +79,4 @@ pub record PlanFacts (X : ℤ) (V₀ A₀ J₀ S₀ a b c e D short : ℕ) : Typ
       KeepsBounds V₀ A₀ J₀ S₀
       (rule.J₁ (distance X) V₀ A₀ J₀ S₀) (rule.A₁ (distance X) V₀ A₀ J₀ S₀) (rule.V₁ (distance X) V₀ A₀ J₀ S₀)
       D a b c
-  pub ten-least :
-      TenLeast (distance X) V₀ A₀ J₀ S₀ a b
-      (rule.J₁ (distance X) V₀ A₀ J₀ S₀) (rule.A₁ (distance X) V₀ A₀ J₀ S₀) (rule.V₁ (distance X) V₀ A₀ J₀ S₀)
+  pub ten-least : TenLeast (distance X) V₀ A₀ J₀ S₀

@@ -3,6 +3,7 @@ pub mod Least
 pub mod Intervals
 pub mod Durations
 pub mod Outcome
+pub mod Accepted
 pub mod Answer
 pub mod Facts
 pub mod Starred

@@ -2,7 +2,7 @@
 use mathlib.Core.Bool.{Bool, true, false, _||_}
 use mathlib.Core.List.{List, [], _∷_}
 use mathlib.Core.Path.{_≡_}
-use Prim.Native.Nat.{ℕ, _^_, _≤_}
+use Prim.Native.Nat.{ℕ, _^_}
 use lib.Dec.{eqb, ltb}
 use lib.IntN.{ℤ, natAbs}
 use Rattle.planner.specs.Quantities.{distance}
@@ -28,62 +28,44 @@ mostBound = 2 ^ 50
 abbrev pub outOfRange : ℕ → Bool
 outOfRange x = eqb x 0 || ltb mostBound x
 
--- "Where several apply, the lowest number is given": the checks stand in the order of their numbers.
-pub record Check : Type 0 where
-  pub number : ℕ
-  pub applies : Bool
+-- A row of the paper's table: its number, and whether it applies.
+pub data Check : Type 0 where
+  check : (number : ℕ) (applies : Bool) → Check
 
+-- "Where several apply, the lowest number is given": the checks stand in the order of their numbers.
 unfoldable pub firstRefusal : List Check → Outcome → Outcome
 firstRefusal [] o = o
-firstRefusal (x ∷ xs) o = elim (x .applies) [ true ↦ refused (x .number) | false ↦ firstRefusal xs o ]
-
--- N of a move with distance W.
-unfoldable pub samplesOf : (W V₀ A₀ J₀ S₀ : ℕ) → ℕ
-samplesOf W V₀ A₀ J₀ S₀ = N (a W V₀ A₀ J₀ S₀) (b W V₀ A₀ J₀ S₀) (c W V₀ A₀ J₀ S₀) (e W V₀ A₀ J₀ S₀)
+firstRefusal (check number true ∷ xs) o = refused number
+firstRefusal (check number false ∷ xs) o = firstRefusal xs o
 
 -- The plan of four intervals for the distance W.
 abbrev pub planOf : (W a b c e : ℕ) → Outcome
 planOf W a b c e = planned a b c e (D W a b c e) (shortfall W a b c e)
 
+-- N of a move with distance W, and its plan.
+module _ (W V₀ A₀ J₀ S₀ : ℕ) where
+  unfoldable pub samplesOf : ℕ
+  samplesOf = N (a W V₀ A₀ J₀ S₀) (b W V₀ A₀ J₀ S₀) (c W V₀ A₀ J₀ S₀) (e W V₀ A₀ J₀ S₀)
+
+  abbrev pub rulePlan : Outcome
+  rulePlan = planOf W (a W V₀ A₀ J₀ S₀) (b W V₀ A₀ J₀ S₀) (c W V₀ A₀ J₀ S₀) (e W V₀ A₀ J₀ S₀)
+
+-- Refusals 1 to 7.
+abbrev pub checks : (X : ℤ) (V₀ A₀ J₀ S₀ : ℕ) → List Check
+checks X V₀ A₀ J₀ S₀ =
+    check 1 (eqb (natAbs X) 0)
+    ∷ check 2 (ltb mostCounts (natAbs X))
+    ∷ check 3 (outOfRange V₀)
+    ∷ check 4 (outOfRange A₀)
+    ∷ check 5 (outOfRange J₀)
+    ∷ check 6 (outOfRange S₀)
+    ∷ check 7 (ltb mostSamples (samplesOf (distance X) V₀ A₀ J₀ S₀))
+    ∷ []
+
 -- The outcome of (X, V, A, J, S).
 unfoldable pub outcomeOf : (X : ℤ) (V₀ A₀ J₀ S₀ : ℕ) → Outcome
-outcomeOf X V₀ A₀ J₀ S₀ =
-    let W = distance X in
-    firstRefusal
-    (record { number = 1; applies = eqb (natAbs X) 0 }
-    ∷ record { number = 2; applies = ltb mostCounts (natAbs X) }
-    ∷ record { number = 3; applies = outOfRange V₀ }
-    ∷ record { number = 4; applies = outOfRange A₀ }
-    ∷ record { number = 5; applies = outOfRange J₀ }
-    ∷ record { number = 6; applies = outOfRange S₀ }
-    ∷ record { number = 7; applies = ltb mostSamples (samplesOf W V₀ A₀ J₀ S₀) }
-    ∷ [])
-    (planOf W (a W V₀ A₀ J₀ S₀) (b W V₀ A₀ J₀ S₀) (c W V₀ A₀ J₀ S₀) (e W V₀ A₀ J₀ S₀))
+outcomeOf X V₀ A₀ J₀ S₀ = firstRefusal (checks X V₀ A₀ J₀ S₀) (rulePlan (distance X) V₀ A₀ J₀ S₀)
 
 -- What the planner promises of the outcome of its answer.
 pub record Plans (X : ℤ) (V₀ A₀ J₀ S₀ : ℕ) (o : Outcome) : Type 0 where
   pub outcome-is : o ≡ outcomeOf X V₀ A₀ J₀ S₀
-
--- A bound that may be sent.
-pub record BoundInRange (x : ℕ) : Type 0 where
-  pub at-least : 1 ≤ x
-  pub at-most : x ≤ mostBound
-
--- The figures of a move are in range: none of refusals 1 to 6 applies.
-pub record InRange (X : ℤ) (V₀ A₀ J₀ S₀ : ℕ) : Type 0 where
-  pub moves : 1 ≤ natAbs X
-  pub near : natAbs X ≤ mostCounts
-  pub velocity : BoundInRange V₀
-  pub acceleration : BoundInRange A₀
-  pub jerk : BoundInRange J₀
-  pub snap : BoundInRange S₀
-
--- Demand 2: "a move is accepted if its figures are in range and its rule needs at most 4,096 samples, and otherwise not".
-pub record Accepted (X : ℤ) (V₀ A₀ J₀ S₀ : ℕ) : Type 0 where
-  pub in-range : InRange X V₀ A₀ J₀ S₀
-  pub short-enough : samplesOf (distance X) V₀ A₀ J₀ S₀ ≤ mostSamples
-
--- The outcome is a plan.
-abbrev pub IsPlanned : Outcome → Type 0
-IsPlanned (refused number) = ⊥
-IsPlanned (planned a b c e D short) = Unit {0}

@@ -8,11 +8,11 @@ use Rattle.planner.specs.Outcome.{Outcome, refused, planned}
 
 -- The columns "p q r s", N, D and shortfall, or the refusal.
 pub data Columns : Type 0 where
-  turned-away : (number : ℕ) → Columns
+  refusal : (number : ℕ) → Columns
   columns : (p q r s N D short : ℕ) → Columns
 
 abbrev pub shown : Outcome → Columns
-shown (refused number) = turned-away number
+shown (refused number) = refusal number
 shown (planned a b c e D short) = columns (p a) (q a b) (r a b c) (s a b c e) (N a b c e) D short
 
 -- A row: what is sent, and what must come out.
@@ -40,5 +40,5 @@ starred =
     ∷ row 96 (1000 * G) (4 * G) (columns 1 2 0 0 16 G 0)
     ∷ row 96 (1000 * G) (2 * G) (columns 1 1 3 0 18 977343669134 24)
     ∷ row 4092 G G (columns 1 0 0 4088 4096 (2 ^ 39) 0)
-    ∷ row 4093 G G (turned-away 7)
+    ∷ row 4093 G G (refusal 7)
     ∷ []

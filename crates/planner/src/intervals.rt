@@ -4,7 +4,7 @@ use crate::search::least_interval;
 ghost use mathlib.Core.Path.{_≡_};
 ghost use Prim.Native.Nat.{_^_, _≤_, max};
 ghost use Rattle.planner.specs.Intervals.{interval-a, interval-b, interval-c, interval-e};
-ghost use Rattle.planner.specs.Outcome.{BoundInRange};
+ghost use Rattle.planner.specs.Accepted.{BoundInRange};
 ghost use Rattle.planner.specs.Inner.Capped.{Agrees, Carried, Figures, IntervalsAgree};
 
 // A plan has at most 4,096 samples, so a search need tell no numbers from here on apart.

@@ -2,17 +2,18 @@
 use borrow.Author.Needs.{needs}
 use borrow.Author.Tests.{eq-eqb, ne-eqb, lt-ltb, le-ltb}
 use mathlib.Core.Path.{_≡_, sym, ap, _∙_}
-use mathlib.Core.Bool.{true, false}
+use mathlib.Core.Bool.{false}
 use Prim.Native.Nat.{ℕ, _*_}
-use native.Mathlib.Nat.{mul-comm}
 use native.Mathlib.Omega.{arith}
-use lib.Dec.{eqb, ltb}
 use mir.Syntax.{w64}
 use mir.Facts.{toZ-ofZ}
 use lib.IntN.{natAbs}
+use lib.ListN.{drop}
 use Rattle.planner.specs.Quantities.{distance, unitsPerCount}
-use Rattle.planner.specs.Outcome.{outOfRange, mostCounts, BoundInRange}
-use Rattle.planner.proofs.RefusalLaws.{refused-1, refused-2, refused-3, refused-4, refused-5, refused-6, within, bound-in-range}
+use Rattle.planner.specs.Outcome.{Outcome, outOfRange, checks, rulePlan, Plans}
+use Rattle.planner.specs.declared.Move.{Move}
+use Rattle.planner.specs.Inner.Capped.{planWithin}
+use Rattle.planner.proofs.RefusalLaws.{Gives, stop, skip, plans, bound-in-range}
 use Rattle.planner.proofs.plan_move.Statement.{statement}
 use Rattle.planner.proofs.plan_move.Tie as tie
 
@@ -27,13 +28,7 @@ scaled : (c : tie.After-magnitude) → unitsPerCount * c .magnitude .result ≡ 
 unfolding distance
 scaled c = ap (λ (x : ℕ). unitsPerCount * x) (size c)
 
--- the checks that did not apply, by the place that is reached past each
-moves : (c : tie.Else1) → eqb (natAbs (c .before .before .before .args .m .displacement)) 0 ≡ false
-moves c = ne-eqb _ _ (λ h. c .if1 .left (size (c .before) ∙ h))
-
-near : (c : tie.Else2) → ltb mostCounts (natAbs (c .before .before .before .before .args .m .displacement)) ≡ false
-near c = le-ltb _ _ (rw (size (c .before .before)) at (c .if2 .left))
-
+-- the bounds that passed their check, by the place that is reached past each
 velocity : (c : tie.Else3) → outOfRange (c .before .before .before .before .before .before .args .m .velocity) ≡ false
 velocity c = sym (c .before .out-of-range .ensures) ∙ c .if3 .left
 
@@ -46,52 +41,75 @@ jerk c = sym (c .before .out-of-range3 .ensures) ∙ c .if5 .left
 snap : (c : tie.Else6) → outOfRange (c .before .before .before .before .before .before .before .before .before .before .before .before .args .m .snap) ≡ false
 snap c = sym (c .before .out-of-range4 .ensures) ∙ c .if6 .left
 
+-- past k checks, what the others give of the rule's plan is the outcome
+Past : ℕ → Move → Type 0
+Past k m =
+    (p : Outcome)
+    → Gives (drop k (checks (m .displacement) (m .velocity) (m .acceleration) (m .jerk) (m .snap)))
+    (rulePlan (distance (m .displacement)) (m .velocity) (m .acceleration) (m .jerk) (m .snap)) p
+    → Plans (m .displacement) (m .velocity) (m .acceleration) (m .jerk) (m .snap) p
+
+past-1 : (c : tie.Else1) → Past 1 (c .before .before .before .args .m)
+unfolding Past
+past-1 c p g = plans (skip (ne-eqb _ _ (λ h. c .if1 .left (size (c .before) ∙ h))) g)
+
+past-2 : (c : tie.Else2) → Past 2 (c .before .before .before .before .args .m)
+unfolding Past
+past-2 c p g = past-1 (c .before) p (skip (le-ltb _ _ (rw (size (c .before .before)) at (c .if2 .left))) g)
+
+past-3 : (c : tie.Else3) → Past 3 (c .before .before .before .before .before .before .args .m)
+unfolding Past
+past-3 c p g = past-2 (c .before .before) p (skip (velocity c) g)
+
+past-4 : (c : tie.Else4) → Past 4 (c .before .before .before .before .before .before .before .before .args .m)
+unfolding Past
+past-4 c p g = past-3 (c .before .before) p (skip (acceleration c) g)
+
+past-5 : (c : tie.Else5) → Past 5 (c .before .before .before .before .before .before .before .before .before .before .args .m)
+unfolding Past
+past-5 c p g = past-4 (c .before .before) p (skip (jerk c) g)
+
+past-6 : (c : tie.Else6) → Past 6 (c .before .before .before .before .before .before .before .before .before .before .before .before .args .m)
+unfolding Past
+past-6 c p g = past-5 (c .before .before) p (skip (snap c) g)
+
 magnitude-requires : tie.Need-magnitude-requires
 magnitude-requires c κs = search needs
 
 returns : tie.Need-returns
-returns c = refused-1 _ _ _ _ _ (eq-eqb _ _ (sym (size (c .before)) ∙ c .if1 .taken))
+returns c = plans (stop (eq-eqb _ _ (sym (size (c .before)) ∙ c .if1 .taken)))
 
 returns-2 : tie.Need-returns-2
-returns-2 c = refused-2 _ _ _ _ _ (moves (c .before)) (lt-ltb _ _ (rw (size (c .before .before)) at (c .if2 .taken)))
+unfolding Past
+returns-2 c = past-1 (c .before) _ (stop (lt-ltb _ _ (rw (size (c .before .before)) at (c .if2 .taken))))
 
 out-of-range-requires : tie.Need-out-of-range-requires
 out-of-range-requires c κs = search needs
 
 returns-3 : tie.Need-returns-3
-returns-3 c =
-    let far = c .before .before in
-    refused-3 _ _ _ _ _ (moves (far .before)) (near far) (sym (c .before .out-of-range .ensures) ∙ c .if3 .taken)
+unfolding Past
+returns-3 c = past-2 (c .before .before) _ (stop (sym (c .before .out-of-range .ensures) ∙ c .if3 .taken))
 
 out-of-range-requires-2 : tie.Need-out-of-range-requires-2
 out-of-range-requires-2 c κs = search needs
 
 returns-4 : tie.Need-returns-4
-returns-4 c =
-    let v = c .before .before in
-    let far = v .before .before in
-    refused-4 _ _ _ _ _ (moves (far .before)) (near far) (velocity v) (sym (c .before .out-of-range2 .ensures) ∙ c .if4 .taken)
+unfolding Past
+returns-4 c = past-3 (c .before .before) _ (stop (sym (c .before .out-of-range2 .ensures) ∙ c .if4 .taken))
 
 out-of-range-requires-3 : tie.Need-out-of-range-requires-3
 out-of-range-requires-3 c κs = search needs
 
 returns-5 : tie.Need-returns-5
-returns-5 c =
-    let a = c .before .before in
-    let v = a .before .before in
-    let far = v .before .before in
-    refused-5 _ _ _ _ _ (moves (far .before)) (near far) (velocity v) (acceleration a) (sym (c .before .out-of-range3 .ensures) ∙ c .if5 .taken)
+unfolding Past
+returns-5 c = past-4 (c .before .before) _ (stop (sym (c .before .out-of-range3 .ensures) ∙ c .if5 .taken))
 
 out-of-range-requires-4 : tie.Need-out-of-range-requires-4
 out-of-range-requires-4 c κs = search needs
 
 returns-6 : tie.Need-returns-6
-returns-6 c =
-    let j = c .before .before in
-    let a = j .before .before in
-    let v = a .before .before in
-    let far = v .before .before in
-    refused-6 _ _ _ _ _ (moves (far .before)) (near far) (velocity v) (acceleration a) (jerk j) (sym (c .before .out-of-range4 .ensures) ∙ c .if6 .taken)
+unfolding Past
+returns-6 c = past-5 (c .before .before) _ (stop (sym (c .before .out-of-range4 .ensures) ∙ c .if6 .taken))
 
 mul-plan-in-range : tie.Need-mul-plan-in-range
 mul-plan-in-range c = search needs
@@ -110,13 +128,8 @@ plan-in-range-requires c κs =
     }
 
 returns-7 : tie.Need-returns-7
-returns-7 c =
-    let s = c .before in
-    let j = s .before .before in
-    let a = j .before .before in
-    let v = a .before .before in
-    let far = v .before .before in
-    record { outcome-is = (rw (scaled (far .before .before)) at (c .plan-in-range .ensures)) ∙ within _ _ _ _ _ (moves (far .before)) (near far) (velocity v) (acceleration a) (jerk j) (snap s) }
+unfolding Past planWithin
+returns-7 c = past-6 (c .before) _ (record { is = rw (scaled (c .before .before .before .before .before .before .before .before .before .before .before)) at (c .plan-in-range .ensures) })
 
 pub plan-move-spec : {M : Type 1} → statement M
 plan-move-spec =

@@ -18,10 +18,10 @@ const SEARCH_NAMES: [&str; SEARCH_COUNT] = [
 const LIMIT_NAMES: [&str; 3] = ["b", "c", "e"];
 
 /// Values that each bound must have somewhere.
-const BOUND_EDGES: [u64; 5] = [0, 1, 1 << 50, (1 << 50) + 1, u64::MAX];
+pub(super) const BOUND_EDGES: [u64; 5] = [0, 1, 1 << 50, (1 << 50) + 1, u64::MAX];
 
 /// Values that the displacement must have somewhere.
-const DISPLACEMENT_EDGES: [i64; 9] = [
+pub(super) const DISPLACEMENT_EDGES: [i64; 9] = [
     0,
     1,
     -1,

@@ -1,23 +1,8 @@
 //! Moves at and beyond the edges of the allowed values.
 
+use super::coverage::{BOUND_EDGES, DISPLACEMENT_EDGES};
 use super::field::{with_both_signs, with_displacement, BOUNDS};
 use crate::planner::{Move, COUNT_GRAINS, LARGEST_BOUND};
-
-/// The values at which a bound starts and stops being allowed.
-const BOUND_EDGES: [u64; 5] = [0, 1, LARGEST_BOUND, LARGEST_BOUND + 1, u64::MAX];
-
-/// The values at which a displacement starts and stops being allowed.
-const DISPLACEMENT_EDGES: [i64; 9] = [
-    0,
-    1,
-    -1,
-    1_048_576,
-    -1_048_576,
-    1_048_577,
-    -1_048_577,
-    i64::MIN,
-    i64::MAX,
-];
 
 pub fn moves() -> Vec<Move> {
     let mut list = displacement_edges();

@@ -2,7 +2,7 @@
 -- samples are small enough that no product leaves its range. Assumes nothing.
 use borrow.Author.Needs.{needs}
 use Prim.Native.Nat.{_≤_}
-use native.Mathlib.Nat.{mul-le-mul, mul-pos, div-mul-le-self}
+use native.Mathlib.Nat.{mul-le-mul, mul-pos}
 use native.Mathlib.Omega.{arith}
 use Rattle.planner.specs.declared.intervals.Intervals.{Intervals}
 use Rattle.planner.proofs.RefusalLaws.{too-long, planned-within}

@@ -2,13 +2,6 @@ use Rattle.planner.proofs.CapLaws.{intervals-agree}
 use borrow.Author.Needs.{needs}
 use Rattle.planner.proofs.intervals.find_intervals.Statement.{statement}
 use Rattle.planner.proofs.intervals.find_intervals.Tie as tie
-use Rattle.planner.proofs.intervals.find_intervals.Reads as reads
-use Rattle.planner.proofs.intervals.find_intervals.Lts as lts
-use Rattle.planner.proofs.intervals.carried.Reads as carried-reads
-use Rattle.planner.proofs.intervals.interval_a.Reads as interval-a-reads
-use Rattle.planner.proofs.intervals.interval_b.Reads as interval-b-reads
-use Rattle.planner.proofs.intervals.interval_c.Reads as interval-c-reads
-use Rattle.planner.proofs.intervals.interval_e.Reads as interval-e-reads
 
 -- src/intervals.rt:79:9
 interval-a-requires : tie.Need-interval-a-requires

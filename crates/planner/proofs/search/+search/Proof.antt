@@ -1,10 +1,7 @@
 -- The proof of the cycle of calls {search}. The measure is the span from lo to hi. Assumes nothing.
 use Prim.Native.Nat.{ℕ, _+_, _-_, _*_, _/_, _^_, _<_, _≤_}
-use mathlib.Core.Path.{_≡_, sym}
-use mathlib.Core.Bool.{Bool, true}
 use native.Mathlib.Nat.{mul-le-mul}
 use native.Mathlib.Omega.{arith}
-use lib.Dec.{leb}
 use borrow.Author.Tests.{le-leb, lt-leb}
 use Rattle.planner.specs.Inner.Search.{growth}
 use Rattle.planner.proofs.LeastLaws.{within-one, within-left, within-right}

@@ -2,9 +2,6 @@ use Rattle.planner.proofs.ReachLaws.{least-between}
 use borrow.Author.Needs.{needs}
 use Rattle.planner.proofs.search.least_interval.Statement.{statement}
 use Rattle.planner.proofs.search.least_interval.Tie as tie
-use Rattle.planner.proofs.search.least_interval.Reads as reads
-use Rattle.planner.proofs.search.least_interval.Lts as lts
-use Rattle.planner.proofs.search.search.Reads as search-reads
 
 -- src/search.rt:45:24
 sub-search : tie.Need-sub-search
