@@ -1,4 +1,6 @@
 pub mod LeastLaws
+pub mod SpanLaws
+pub mod Ceiling
 pub mod ReachLaws
 pub mod Forms
 pub mod CapLaws

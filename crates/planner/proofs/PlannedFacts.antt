@@ -11,6 +11,10 @@ use Rattle.planner.specs.Intervals.{a, b, c, e, J₁, A₁, V₁, interv
 use Rattle.planner.specs.Durations.{D}
 use Rattle.planner.specs.Outcome.{Outcome, refused, planned, samplesOf, rulePlan, Plans}
 use Rattle.planner.specs.Accepted.{Accepted}
+use Rattle.planner.specs.Answer.{outcome}
+use Rattle.planner.specs.declared.Plan.{Plan}
+use Rattle.planner.specs.declared.PlanAnswer.{PlanAnswer}
+use Rattle.planner.specs.declared.PlanAnswer.the-variants.{Planned}
 use Rattle.planner.specs.Inner.Capped.{Figures}
 use Rattle.planner.specs.Facts.{PlanFacts, KeepsBounds}
 use Rattle.planner.proofs.Acceptance.{acceptance, accepted-outcome}
@@ -63,8 +67,7 @@ FactsOf X V₀ A₀ J₀ S₀ (planned a b c e D short) = PlanFacts X V₀ A₀ 
 module _ {X : ℤ} {V₀ A₀ J₀ S₀ : ℕ} where
   rule-facts :
       Accepted X V₀ A₀ J₀ S₀
-      → FactsOf X V₀ A₀ J₀ S₀
-      (rulePlan (distance X) V₀ A₀ J₀ S₀)
+      → FactsOf X V₀ A₀ J₀ S₀ (rulePlan (distance X) V₀ A₀ J₀ S₀)
   unfolding samplesOf
   rule-facts h =
       let o = ordered (distance X) V₀ A₀ J₀ S₀ in
@@ -79,6 +82,7 @@ module _ {X : ℤ} {V₀ A₀ J₀ S₀ : ℕ} where
         durations = durations o;
         samples = h .short-enough;
         product = product-bound o (h .short-enough);
+        snap-rule = refl;
         shortfall-rule = refl;
         shortfall-below = below _ _ (product-positive o);
         whole = whole _ _;
@@ -90,3 +94,11 @@ module _ {X : ℤ} {V₀ A₀ J₀ S₀ : ℕ} where
   planned-facts h =
       let k = acceptance X V₀ A₀ J₀ S₀ _ h .0 tt in
       subst (FactsOf X V₀ A₀ J₀ S₀) (sym (h .outcome-is ∙ accepted-outcome X V₀ A₀ J₀ S₀ k)) (rule-facts k)
+
+  -- the same for an answer that was taken apart
+  pub answer-facts :
+      {r : PlanAnswer} {x : Plan}
+      → Plans X V₀ A₀ J₀ S₀ (outcome r)
+      → r ≡ Planned x
+      → PlanFacts X V₀ A₀ J₀ S₀ (x .a) (x .b) (x .c) (x .e) (x .snap) (x .shortfall)
+  answer-facts h q = planned-facts (subst (λ (r : PlanAnswer). Plans X V₀ A₀ J₀ S₀ (outcome r)) q h)

@@ -1,17 +1,17 @@
--- Laws of n·(u+n)^d: small powers, bounds, growth with n, and the division that takes a bound to the other side.
+-- Laws of n·(u+n)^d: small powers, bounds, growth with n, and what a search finds for it.
 -- Assumes nothing.
-use mathlib.Core.Path.{_≡_, sym, ap, subst, fun-ext, _∙_}
+use mathlib.Core.Path.{_≡_, ap, subst, fun-ext, _∙_}
 use mathlib.Core.Bool.{Bool, true}
-use mathlib.Core.Logic.{_↔_}
-use Prim.Native.Nat.{ℕ, zero, suc, suc-le-suc, _+_, _-_, _*_, _/_, _^_, _≤_, _<_, min, max}
-use native.Mathlib.Nat.{le-of-suc-le-suc, lt-of-not-le, suc-mul, le-trans, mul-le-mul, mul-le-mul-left, pow-zero, pow-suc, pow-le-pow-left, pow-le-pow-right, one-le-pow, one-mul, mul-comm, le-mul-of-pos-right, div-lt-iff-lt-mul}
+use Prim.Native.Nat.{ℕ, zero, suc, _+_, _-_, _*_, _/_, _^_, _≤_, min, max}
+use native.Mathlib.Nat.{le-trans, mul-le-mul, mul-le-mul-left, pow-zero, pow-suc, pow-le-pow-left, pow-le-pow-right, one-le-pow, one-mul, mul-comm, le-mul-of-pos-right}
 use native.Mathlib.Omega.{arith}
-use native.Mathlib.Decide.{decLe}
 use lib.Dec.{leb}
-use borrow.Author.Tests.{le-leb, lt-leb, leb-true}
+use borrow.Author.Tests.{le-leb, leb-true}
 use Rattle.planner.specs.Least.{least}
 use Rattle.planner.specs.Inner.Search.{growth, reaches, LeastWithin}
-use Rattle.planner.proofs.LeastLaws.{Rising, Findable, least-is, within-least}
+use Rattle.planner.proofs.LeastLaws.{Rising, Findable, least-is}
+use Rattle.planner.proofs.SpanLaws.{within-least}
+use Rattle.planner.proofs.Ceiling.{ceiling}
 
 pub pow-one : (m : ℕ) → m ^ 1 ≡ m
 pow-one m = pow-suc m 0 ∙ ap (λ (x : ℕ). x * m) (pow-zero m) ∙ one-mul m
@@ -49,27 +49,6 @@ reaches-findable k u d t hk ht =
   where
     le-times : (k x : ℕ) → 1 ≤ k → x ≤ k * x
     le-times k x h = subst (λ (y : ℕ). x ≤ y) (mul-comm x k) (le-mul-of-pos-right x h)
-
--- t ≤ k·x where ⌈t/k⌉ ≤ x
-module _ (k t x : ℕ) (hk : 1 ≤ k) where
-  quotient-below : ((t + (k - 1)) / k < suc x) ↔ (t + (k - 1) < suc x * k)
-  quotient-below = div-lt-iff-lt-mul hk
-
-  regroup : suc x * k ≡ k * x + k
-  regroup = suc-mul x k ∙ ap (λ (y : ℕ). y + k) (mul-comm x k)
-
-  ceiling-le : t ≤ k * x → (t + (k - 1)) / k ≤ x
-  ceiling-le h = le-of-suc-le-suc (quotient-below .1 (rw regroup (omega arith)))
-
-  ceiling-lt : k * x < t → x < (t + (k - 1)) / k
-  ceiling-lt h = lt-of-not-le (λ le. let lt : t + (k - 1) < k * x + k = rw regroup at (quotient-below .0 (suc-le-suc le)) in absurd (omega arith))
-
-  pub ceiling : leb ((t + (k - 1)) / k) x ≡ leb t (k * x)
-  ceiling = ceiling-by (decLe t (k * x))
-    where
-      ceiling-by : Dec (t ≤ k * x) → leb ((t + (k - 1)) / k) x ≡ leb t (k * x)
-      ceiling-by (yes h) = le-leb _ _ (ceiling-le h) ∙ sym (le-leb t (k * x) h)
-      ceiling-by (no h) = lt-leb _ _ (ceiling-lt (omega arith)) ∙ sym (lt-leb t (k * x) (omega arith))
 
 -- what the search finds for the quotient is the least number for the bound, as far as the span goes
 pub least-between :

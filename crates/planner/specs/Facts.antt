@@ -2,7 +2,7 @@
 -- own text.
 use mathlib.Core.Path.{_≡_}
 use mathlib.Core.Bool.{Bool}
-use Prim.Native.Nat.{ℕ, _+_, _-_, _*_, _^_, _≤_, _<_}
+use Prim.Native.Nat.{ℕ, _+_, _-_, _*_, _/_, _^_, _≤_, _<_}
 use lib.IntN.{ℤ}
 use Rattle.planner.specs.Quantities.{distance}
 use Rattle.planner.specs.Least.{least, IsLeast}
@@ -72,6 +72,7 @@ pub record PlanFacts (X : ℤ) (V₀ A₀ J₀ S₀ a b c e D short : ℕ) : Typ
   pub durations : N a b c e ≡ 8 * p a + 4 * q a b + 2 * r a b c + s a b c e
   pub samples : N a b c e ≤ mostSamples
   pub product : P a b c e ≤ 2 ^ 39
+  pub snap-rule : D ≡ distance X / P a b c e
   pub shortfall-rule : short ≡ distance X - D * P a b c e
   pub shortfall-below : short < P a b c e
   pub whole : D * P a b c e + short ≡ distance X

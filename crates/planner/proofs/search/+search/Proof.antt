@@ -4,7 +4,7 @@ use native.Mathlib.Nat.{mul-le-mul}
 use native.Mathlib.Omega.{arith}
 use borrow.Author.Tests.{le-leb, lt-leb}
 use Rattle.planner.specs.Inner.Search.{growth}
-use Rattle.planner.proofs.LeastLaws.{within-one, within-left, within-right}
+use Rattle.planner.proofs.SpanLaws.{within-one, within-left, within-right}
 use Rattle.planner.proofs.ReachLaws.{pow-bound, growth-rising}
 use borrow.Fn.Kinds.{In}
 use borrow.Fn.PlainCycle.{Measures, is, falls, and}
@@ -18,58 +18,33 @@ use Rattle.planner.proofs.search.+search.Tie.{close}
 abbrev μ-search : Measures 0 search-kinds.ps ℕ
 μ-search κs a = a .1 .1 .1 .1 .0 - a .1 .1 .1 .0
 
+-- what `search` is given at the measure t, and what a call of it asks below t
 abbrev search-at : ℕ → In 0 search-kinds.ps
 search-at t = and 0 search-kinds.ps (is 0 search-kinds.ps μ-search t) search′.Pre
 
 abbrev search-below : ℕ → In 0 search-kinds.ps
 search-below t = and 0 search-kinds.ps (falls 0 search-kinds.ps _<_ μ-search t) search′.Pre
 
-search-returns : (t : ℕ) → search-lts.Need-returns (
-  power-reads.Asked,
-  power-reads.Learnt,
-  search-below t,
-  search′.Post,
-) (search-at t) search′.Post
+-- what a call of `power` and of `search` asks and tells
+abbrev claims : ℕ → search-lts.Claims
+claims t = (power-reads.Asked, power-reads.Learnt, search-below t, search′.Post)
+
+search-returns : (t : ℕ) → search-lts.Need-returns (claims t) (search-at t) search′.Post
 search-returns t c = within-one _ (c .before .args .lo) (c .before .args .hi) (c .if1 .taken)
 
-search-sub-mid : (t : ℕ) → search-lts.Need-sub-mid (
-  power-reads.Asked,
-  power-reads.Learnt,
-  search-below t,
-  search′.Post,
-) (search-at t) search′.Post
+search-sub-mid : (t : ℕ) → search-lts.Need-sub-mid (claims t) (search-at t) search′.Post
 search-sub-mid t c = omega arith
 
-search-add-mid : (t : ℕ) → search-lts.Need-add-mid (
-  power-reads.Asked,
-  power-reads.Learnt,
-  search-below t,
-  search′.Post,
-) (search-at t) search′.Post
+search-add-mid : (t : ℕ) → search-lts.Need-add-mid (claims t) (search-at t) search′.Post
 search-add-mid t c = omega arith
 
-search-add-power : (t : ℕ) → search-lts.Need-add-power (
-  power-reads.Asked,
-  power-reads.Learnt,
-  search-below t,
-  search′.Post,
-) (search-at t) search′.Post
+search-add-power : (t : ℕ) → search-lts.Need-add-power (claims t) (search-at t) search′.Post
 search-add-power t c = omega arith
 
-search-power-requires : (t : ℕ) → search-lts.Need-power-requires (
-  power-reads.Asked,
-  power-reads.Learnt,
-  search-below t,
-  search′.Post,
-) (search-at t) search′.Post
+search-power-requires : (t : ℕ) → search-lts.Need-power-requires (claims t) (search-at t) search′.Post
 search-power-requires t c κs = omega arith
 
-search-mul-reached : (t : ℕ) → search-lts.Need-mul-reached (
-  power-reads.Asked,
-  power-reads.Learnt,
-  search-below t,
-  search′.Post,
-) (search-at t) search′.Post
+search-mul-reached : (t : ℕ) → search-lts.Need-mul-reached (claims t) (search-at t) search′.Post
 search-mul-reached t c =
     let a = c .before .before .args in
     let mid : ℕ = a .lo + (a .hi - a .lo) / 2 in
@@ -78,36 +53,16 @@ search-mul-reached t c =
     let product : mid * (c .power .result) ≤ 16388 * 2 ^ 45 = rw (c .power .ensures) (mul-le-mul small bound) in
     omega (arith, product)
 
-search-search-requires : (t : ℕ) → search-lts.Need-search-requires (
-  power-reads.Asked,
-  power-reads.Learnt,
-  search-below t,
-  search′.Post,
-) (search-at t) search′.Post
+search-search-requires : (t : ℕ) → search-lts.Need-search-requires (claims t) (search-at t) search′.Post
 search-search-requires t c κs = omega arith
 
-search-add-search : (t : ℕ) → search-lts.Need-add-search (
-  power-reads.Asked,
-  power-reads.Learnt,
-  search-below t,
-  search′.Post,
-) (search-at t) search′.Post
+search-add-search : (t : ℕ) → search-lts.Need-add-search (claims t) (search-at t) search′.Post
 search-add-search t c = omega arith
 
-search-search-requires-2 : (t : ℕ) → search-lts.Need-search-requires-2 (
-  power-reads.Asked,
-  power-reads.Learnt,
-  search-below t,
-  search′.Post,
-) (search-at t) search′.Post
+search-search-requires-2 : (t : ℕ) → search-lts.Need-search-requires-2 (claims t) (search-at t) search′.Post
 search-search-requires-2 t c κs = omega arith
 
-search-returns-2 : (t : ℕ) → search-lts.Need-returns-2 (
-  power-reads.Asked,
-  power-reads.Learnt,
-  search-below t,
-  search′.Post,
-) (search-at t) search′.Post
+search-returns-2 : (t : ℕ) → search-lts.Need-returns-2 (claims t) (search-at t) search′.Post
 search-returns-2 t c =
     let a = c .before .before .before .before .args in
     let mid : ℕ = a .lo + (a .hi - a .lo) / 2 in
@@ -115,12 +70,7 @@ search-returns-2 t c =
     (le-leb (a .t) (growth (a .u) (a .d) mid) (rw (c .before .before .power .ensures) at (c .before .if2 .taken)))
     (c .search .ensures)
 
-search-returns-3 : (t : ℕ) → search-lts.Need-returns-3 (
-  power-reads.Asked,
-  power-reads.Learnt,
-  search-below t,
-  search′.Post,
-) (search-at t) search′.Post
+search-returns-3 : (t : ℕ) → search-lts.Need-returns-3 (claims t) (search-at t) search′.Post
 search-returns-3 t c =
     let a = c .before .before .before .before .args in
     let mid : ℕ = a .lo + (a .hi - a .lo) / 2 in
@@ -129,14 +79,7 @@ search-returns-3 t c =
     (c .search2 .ensures)
 
 pub +search-spec : {M : Type 1} → statement M
-+search-spec = close μ-search λ t. search-lts.spec (
-  power-reads.Asked,
-  power-reads.Learnt,
-  search-below t,
-  search′.Post,
-)
-    (search-at t)
-    search′.Post
++search-spec = close μ-search λ t. search-lts.spec (claims t) (search-at t) search′.Post
     (search-returns t)
     (search-sub-mid t)
     (search-add-mid t)
