@@ -1,10 +1,11 @@
-# run: plans the moves of the paper's table, as they stand at the head of the stored vectors.
+# run: plans the moves of the paper's table, which stand at the head of the stored vectors.
 # test: the gate.
 .PHONY: run test
 
 run:
-	rt check planner_vectors
-	head -n 16 crates/planner_vectors/stdin | ./target/bin/planner_vectors
+	@mkdir -p target
+	@rt check planner_vectors > target/run.log 2>&1 || { cat target/run.log; exit 1; }
+	@head -n 16 crates/planner_vectors/stdin | ./target/bin/planner_vectors
 
 test:
-	./.ci/run
+	@./.ci/run

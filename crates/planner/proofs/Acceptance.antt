@@ -49,10 +49,7 @@ module _ (X : ℤ) (V₀ A₀ J₀ S₀ : ℕ) where
       }
 
   -- the plan of the rule's own intervals
-  pub accepted-outcome :
-      Accepted X V₀ A₀ J₀ S₀
-      → outcomeOf X V₀ A₀ J₀ S₀
-      ≡ rulePlan (distance X) V₀ A₀ J₀ S₀
+  pub accepted-outcome : Accepted X V₀ A₀ J₀ S₀ → outcomeOf X V₀ A₀ J₀ S₀ ≡ rulePlan (distance X) V₀ A₀ J₀ S₀
   accepted-outcome h =
       let i = h .in-range in
       sym

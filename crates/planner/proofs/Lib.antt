@@ -1,3 +1,4 @@
+-- Laws that the proofs of the code cite: the search, its form, the cap, the sign and the checks.
 pub mod LeastLaws
 pub mod SpanLaws
 pub mod Ceiling
@@ -6,10 +7,11 @@ pub mod Forms
 pub mod CapLaws
 pub mod Sign
 pub mod RefusalLaws
+-- What the rules come to: laws of the intervals, and the theorems.
 pub mod BoundLaws
 pub mod ProductBound
 pub mod TenLeastNumbers
-pub mod StarredMoves
-pub mod AnswerLaws
 pub mod Acceptance
 pub mod PlannedFacts
+pub mod StarredMoves
+pub mod AnswerLaws

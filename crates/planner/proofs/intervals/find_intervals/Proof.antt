@@ -1,37 +1,30 @@
+-- `find_intervals` meets its contract: what its calls ensure, put together by `intervals-agree`. Assumes nothing.
 use Rattle.planner.proofs.CapLaws.{intervals-agree}
 use borrow.Author.Needs.{needs}
 use Rattle.planner.proofs.intervals.find_intervals.Statement.{statement}
 use Rattle.planner.proofs.intervals.find_intervals.Tie as tie
 
--- src/intervals.rt:79:9
 interval-a-requires : tie.Need-interval-a-requires
 interval-a-requires c κs = search needs
 
--- src/intervals.rt:80:9
 carried-requires : tie.Need-carried-requires
 carried-requires c κs = search needs
 
--- src/intervals.rt:81:9
 interval-b-requires : tie.Need-interval-b-requires
 interval-b-requires c κs = search needs
 
--- src/intervals.rt:82:9
 carried-requires-2 : tie.Need-carried-requires-2
 carried-requires-2 c κs = search needs
 
--- src/intervals.rt:83:9
 interval-c-requires : tie.Need-interval-c-requires
 interval-c-requires c κs = search needs
 
--- src/intervals.rt:84:9
 carried-requires-3 : tie.Need-carried-requires-3
 carried-requires-3 c κs = search needs
 
--- src/intervals.rt:85:9
 interval-e-requires : tie.Need-interval-e-requires
 interval-e-requires c κs = search needs
 
--- src/intervals.rt:75:1
 returns : tie.Need-returns
 returns c = intervals-agree _ _ _ _ _ _ _ _ _ _ _ _
     (c .before .before .before .before .before .before .interval-a .ensures)

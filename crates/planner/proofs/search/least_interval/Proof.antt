@@ -1,25 +1,21 @@
+-- `least_interval` meets its contract: a search for the quotient finds the least number for the bound. Assumes nothing.
 use Rattle.planner.proofs.ReachLaws.{least-between}
 use borrow.Author.Needs.{needs}
 use Rattle.planner.proofs.search.least_interval.Statement.{statement}
 use Rattle.planner.proofs.search.least_interval.Tie as tie
 
--- src/search.rt:45:24
 sub-search : tie.Need-sub-search
 sub-search c = search needs
 
--- src/search.rt:45:19
 add-search : tie.Need-add-search
 add-search c = search needs
 
--- src/search.rt:45:18
 div-search : tie.Need-div-search
 div-search c = search needs
 
--- src/search.rt:45:5
 search-requires : tie.Need-search-requires
 search-requires c κs = search needs
 
--- src/search.rt:41:1
 returns : tie.Need-returns
 returns c =
     let a = c .before .args in
