@@ -45,10 +45,10 @@ module _ {a b c e : ℕ} (o : Ordered a b c e) where
   pub durations : N a b c e ≡ 8 * p a + 4 * q a b + 2 * r a b c + s a b c e
   durations = eightfold a b c e (q a b) (r a b c) (s a b c e) (left-1 a b (o .a-b)) (left-2 a b c (o .ab-c)) (left-3 a b c e (o .abc-e))
 
-  one-b : 1 ≤ b
+  pub one-b : 1 ≤ b
   one-b = omega (arith, o .one-a, o .a-b)
 
-  one-c : 1 ≤ c
+  pub one-c : 1 ≤ c
   one-c = omega (arith, o .one-a, o .ab-c)
 
   one-e : 1 ≤ e
@@ -58,12 +58,18 @@ module _ {a b c e : ℕ} (o : Ordered a b c e) where
   product-positive = mul-pos (mul-pos (mul-pos (o .one-a) one-b) one-c) one-e
 
   -- each bound from the one after it: the last interval covers W, and each interval covers the bound that was carried on
-  module _ (W V₀ A₀ J₀ S₀ J₁ A₁ V₁ : ℕ) (covers-W : W ≤ V₁ * e) (covers-V : V₁ ≤ A₁ * c) (covers-A : A₁ ≤ J₁ * b) (covers-J : J₁ ≤ S₀ * a) where
+  module _ (W V₀ A₀ J₀ S₀ J₁ A₁ V₁ : ℕ)
+      (covers-W : W ≤ V₁ * e)
+      (covers-V : V₁ ≤ A₁ * c)
+      (covers-A : A₁ ≤ J₁ * b)
+      (covers-J : J₁ ≤ S₀ * a) where
     snap : ℕ
     snap = D W a b c e
 
     regroup : snap * a * b * c * e ≡ snap * P a b c e
-    regroup = rw (mul-assoc (snap * a * b) c e, mul-assoc (snap * a) b (c * e), mul-assoc snap a (b * (c * e)), mul-assoc (a * b) c e, mul-assoc a b (c * e))
+    regroup =
+        rw (mul-assoc (snap * a * b) c e, mul-assoc (snap * a) b (c * e), mul-assoc snap a (b * (c * e)))
+        (rw (mul-assoc (a * b) c e, mul-assoc a b (c * e)))
 
     velocity : snap * a * b * c ≤ V₁
     unfolding snap

@@ -114,7 +114,9 @@ module _ (W V₀ A₀ J₀ S₀ ra j1 rb a1 rc v1 re : ℕ)
     unfolding samplesOf
     same-samples h = omega (arith, same-a h, same-b h, same-c h, same-e h)
 
-    capped-samples : Dec (N ra rb rc re < 4097) → Dec (samplesOf W V₀ A₀ J₀ S₀ < 4097) → min 4097 (N ra rb rc re) ≡ min 4097 (samplesOf W V₀ A₀ J₀ S₀)
+    capped-samples :
+        Dec (N ra rb rc re < 4097) → Dec (samplesOf W V₀ A₀ J₀ S₀ < 4097)
+        → min 4097 (N ra rb rc re) ≡ min 4097 (samplesOf W V₀ A₀ J₀ S₀)
     capped-samples (yes h) d = ap (min 4097) (same-samples (inl h))
     capped-samples (no h) (yes k) = ap (min 4097) (same-samples (inr k))
     capped-samples (no h) (no k) = omega arith

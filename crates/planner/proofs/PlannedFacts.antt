@@ -49,7 +49,8 @@ module _ (W V₀ A₀ J₀ S₀ : ℕ) where
       (a W V₀ A₀ J₀ S₀) (b W V₀ A₀ J₀ S₀) (c W V₀ A₀ J₀ S₀)
   unfolding J₁ A₁ V₁
   rule-bounds f =
-      keeps-bounds (ordered W V₀ A₀ J₀ S₀) W V₀ A₀ J₀ S₀ _ _ _ (covers-W f) covers-V covers-A covers-J (min-le-left _ _) (min-le-left _ _) (min-le-left _ _)
+      keeps-bounds (ordered W V₀ A₀ J₀ S₀) W V₀ A₀ J₀ S₀ _ _ _
+      (covers-W f) covers-V covers-A covers-J (min-le-left _ _) (min-le-left _ _) (min-le-left _ _)
 
 -- the division with its remainder
 module _ (W m : ℕ) where

@@ -26,15 +26,15 @@ pow-three m = pow-suc m 2 ∙ ap (λ (x : ℕ). x * m) (pow-two m)
 pub pow-bound : {m d : ℕ} → m ≤ 2 ^ 15 → d ≤ 3 → m ^ d ≤ 2 ^ 45
 pow-bound {m} {d} hm hd = le-trans (pow-le-pow-left hm d) (pow-le-pow-right (omega arith) hd)
 
-pub growth-mono : (u d m n : ℕ) → m ≤ n → growth u d m ≤ growth u d n
+growth-mono : (u d m n : ℕ) → m ≤ n → growth u d m ≤ growth u d n
 growth-mono u d m n h = mul-le-mul h (pow-le-pow-left (omega arith) d)
 
-pub growth-at-least : (u d n : ℕ) → n ≤ growth u d n
+growth-at-least : (u d n : ℕ) → n ≤ growth u d n
 growth-at-least u d zero = omega arith
 growth-at-least u d (suc n) = le-mul-of-pos-right (suc n) (one-le-pow d (u + suc n) (omega arith))
 
 -- a test rises where what it compares with does
-pub leb-mono : (t x y : ℕ) → x ≤ y → leb t x ≡ true → leb t y ≡ true
+leb-mono : (t x y : ℕ) → x ≤ y → leb t x ≡ true → leb t y ≡ true
 leb-mono t x y h e = le-leb t y (le-trans (leb-true t x e) h)
 
 pub growth-rising : (u d t : ℕ) → Rising (λ (n : ℕ). leb t (growth u d n))

@@ -34,7 +34,10 @@ pub none-left : {o : Outcome} → Gives [] o o
 unfolding firstRefusal
 none-left = record { is = refl }
 
-pub plans : {X : ℤ} {V₀ A₀ J₀ S₀ : ℕ} {p : Outcome} → Gives (checks X V₀ A₀ J₀ S₀) (rulePlan (distance X) V₀ A₀ J₀ S₀) p → Plans X V₀ A₀ J₀ S₀ p
+pub plans :
+    {X : ℤ} {V₀ A₀ J₀ S₀ : ℕ} {p : Outcome}
+    → Gives (checks X V₀ A₀ J₀ S₀) (rulePlan (distance X) V₀ A₀ J₀ S₀) p
+    → Plans X V₀ A₀ J₀ S₀ p
 unfolding outcomeOf
 plans g = record { outcome-is = g .is }
 

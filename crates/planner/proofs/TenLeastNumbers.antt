@@ -15,7 +15,7 @@ use Rattle.planner.specs.Facts.{Found, TenLeast, Ordered}
 use Rattle.planner.proofs.LeastLaws.{least-is}
 use Rattle.planner.proofs.ReachLaws.{reaches-findable}
 use Rattle.planner.proofs.Forms.{a-distance-form, a-velocity-form, a-acceleration-form, a-jerk-form, b-distance-form, b-velocity-form, b-acceleration-form, c-distance-form, c-velocity-form, e-distance-form}
-use Rattle.planner.proofs.BoundLaws.{ordered}
+use Rattle.planner.proofs.BoundLaws.{ordered, one-b, one-c}
 
 pub figures : {X : ℤ} {V₀ A₀ J₀ S₀ : ℕ} → InRange X V₀ A₀ J₀ S₀ → Figures (distance X) V₀ A₀ J₀ S₀
 unfolding distance
@@ -40,11 +40,11 @@ module _ {W V₀ A₀ J₀ S₀ : ℕ} (f : Figures W V₀ A₀ J₀ S₀) where
 
   one-A₁ : 1 ≤ A₁ W V₀ A₀ J₀ S₀
   unfolding A₁
-  one-A₁ = carried A₀ (J₁ W V₀ A₀ J₀ S₀) _ (f .acceleration .at-least) one-J₁ (omega (arith, order .one-a, order .a-b))
+  one-A₁ = carried A₀ (J₁ W V₀ A₀ J₀ S₀) _ (f .acceleration .at-least) one-J₁ (one-b order)
 
   one-V₁ : 1 ≤ V₁ W V₀ A₀ J₀ S₀
   unfolding V₁
-  one-V₁ = carried V₀ (A₁ W V₀ A₀ J₀ S₀) _ (f .velocity .at-least) one-A₁ (omega (arith, order .one-a, order .ab-c))
+  one-V₁ = carried V₀ (A₁ W V₀ A₀ J₀ S₀) _ (f .velocity .at-least) one-A₁ (one-c order)
 
   pub ten-least-by : TenLeast W V₀ A₀ J₀ S₀
   ten-least-by =

@@ -129,7 +129,9 @@ plan-in-range-requires c κs =
 
 returns-7 : tie.Need-returns-7
 unfolding Past planWithin
-returns-7 c = past-6 (c .before) _ (record { is = rw (scaled (c .before .before .before .before .before .before .before .before .before .before .before)) at (c .plan-in-range .ensures) })
+returns-7 c =
+    let at-size = c .before .before .before .before .before .before .before .before .before .before .before in
+    past-6 (c .before) _ (record { is = rw (scaled at-size) at (c .plan-in-range .ensures) })
 
 pub plan-move-spec : {M : Type 1} → statement M
 plan-move-spec =
