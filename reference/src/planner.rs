@@ -40,9 +40,14 @@ impl Answer {
     pub fn phases(&self) -> Option<[u64; 4]> {
         match *self {
             Answer::Refused(_) => None,
-            Answer::Planned { a, b, c, e, .. } => Some([a, b - a, c - a - b, e - a - b - c]),
+            Answer::Planned { a, b, c, e, .. } => Some(phases([a, b, c, e])),
         }
     }
+}
+
+/// The durations p, q, r and s of the intervals a, b, c and e.
+pub fn phases([a, b, c, e]: [u64; 4]) -> [u64; 4] {
+    [a, b - a, c - a - b, e - a - b - c]
 }
 
 /// Plans a move, or refuses it with the lowest number that applies.

@@ -1,5 +1,6 @@
 //! Test vectors: an input file and the output that the reference gives for it.
 
+pub mod motion;
 pub mod planner;
 mod splitmix;
 mod store;
@@ -31,6 +32,7 @@ pub fn run(action: &str, kind: &str, dir: &Path) -> Result<(), Failure> {
     };
     let made = match kind {
         "planner" => planner::files(),
+        "motion" => motion::files(),
         _ => return Err(Failure::Usage),
     };
     made.and_then(|files| store(dir, &files))

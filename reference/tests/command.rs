@@ -12,56 +12,69 @@ fn vectors(action: &str, kind: &str, dir: &Path) -> Output {
         .expect("the command starts")
 }
 
+/// The kinds, with the bytes of an input line and the lines of the output.
+const KINDS: [(&str, usize, usize); 2] = [("planner", 105, 3_200), ("motion", 149, 6_644)];
+
 /// Fresh vectors in a directory of this name.
-fn written(name: &str) -> PathBuf {
-    let dir = Path::new(env!("CARGO_TARGET_TMPDIR")).join(name);
-    let output = vectors("write", "planner", &dir);
+fn written(kind: &str, name: &str) -> PathBuf {
+    let dir = Path::new(env!("CARGO_TARGET_TMPDIR")).join(kind).join(name);
+    let output = vectors("write", kind, &dir);
     assert_eq!(output.status.code(), Some(0));
     dir
 }
 
-/// Changes the stored bytes, and gives the status and message of the check.
-fn checked_after(dir: &Path, file: &str, change: impl Fn(&mut Vec<u8>)) -> (Option<i32>, String) {
+/// Changes fresh vectors, and expects the check to name a file and a line.
+fn found(kind: &str, name: &str, file: &str, line: usize, change: impl Fn(&mut Vec<u8>)) {
+    let dir = written(kind, name);
     let path = dir.join(file);
     let mut bytes = fs::read(&path).expect("the file is there");
     change(&mut bytes);
     fs::write(&path, bytes).expect("the file can be written");
-    let output = vectors("check", "planner", dir);
-    let message = String::from_utf8_lossy(&output.stderr).into_owned();
-    (output.status.code(), message)
+    let output = vectors("check", kind, &dir);
+    let message = String::from_utf8_lossy(&output.stderr);
+    assert_eq!(output.status.code(), Some(1));
+    let expected = format!("{file} differs from the reference at line {line}\n");
+    assert!(message.contains(&expected), "{message}");
 }
 
 #[test]
 fn fresh_vectors_pass_the_check() {
-    let dir = written("fresh");
-    let output = vectors("check", "planner", &dir);
-    assert_eq!(output.status.code(), Some(0));
+    for (kind, ..) in KINDS {
+        let dir = written(kind, "fresh");
+        let output = vectors("check", kind, &dir);
+        assert_eq!(output.status.code(), Some(0));
+    }
 }
 
 #[test]
 fn a_changed_byte_is_found() {
-    let dir = written("changed_byte");
-    // A line of the input has 105 bytes, so this byte stands in line 3.
-    let (status, message) = checked_after(&dir, "stdin", |bytes| bytes[2 * 105 + 19] ^= 1);
-    assert_eq!(status, Some(1));
-    assert!(message.contains("stdin differs from the reference at line 3\n"));
+    for (kind, width, _) in KINDS {
+        let change = |bytes: &mut Vec<u8>| bytes[2 * width + 19] ^= 1;
+        found(kind, "changed_byte", "stdin", 3, change);
+    }
 }
 
 #[test]
 fn a_missing_or_spare_line_is_found() {
-    let dir = written("changed_length");
-    let (status, message) = checked_after(&dir, "stdout", |bytes| bytes.clear());
-    assert_eq!(status, Some(1));
-    assert!(message.contains("stdout differs from the reference at line 1\n"));
-    let dir = written("changed_length");
-    let (status, message) = checked_after(&dir, "stdout", |bytes| bytes.push(b'\n'));
-    assert_eq!(status, Some(1));
-    assert!(message.contains("stdout differs from the reference at line 3201\n"));
+    for (kind, _, lines) in KINDS {
+        found(kind, "missing_lines", "stdout", 1, |bytes| bytes.clear());
+        let spare = |bytes: &mut Vec<u8>| bytes.push(b'\n');
+        found(kind, "spare_line", "stdout", lines + 1, spare);
+    }
 }
 
 #[test]
 fn missing_files_fail_the_check() {
     let dir = Path::new(env!("CARGO_TARGET_TMPDIR")).join("never_written");
+    for (kind, ..) in KINDS {
+        let output = vectors("check", kind, &dir);
+        assert_eq!(output.status.code(), Some(1));
+    }
+}
+
+#[test]
+fn one_kind_is_not_the_other() {
+    let dir = written("motion", "other_kind");
     let output = vectors("check", "planner", &dir);
     assert_eq!(output.status.code(), Some(1));
 }
@@ -73,12 +86,15 @@ fn wrong_words_are_a_usage_error() {
         assert_eq!(vectors(action, kind, dir).status.code(), Some(2));
     }
     let output = Command::new(env!("CARGO_BIN_EXE_vectors")).output();
-    assert_eq!(output.expect("the command starts").status.code(), Some(2));
+    let output = output.expect("the command starts");
+    assert_eq!(output.status.code(), Some(2));
+    let message = String::from_utf8_lossy(&output.stderr);
+    assert_eq!(message, "usage: vectors write|check planner|motion DIR\n");
 }
 
 #[test]
 fn every_input_line_has_five_fields_of_fixed_width() {
-    let dir = written("format");
+    let dir = written("planner", "format");
     let input = fs::read(dir.join("stdin")).expect("the file is there");
     assert_eq!(input.len() % 105, 0);
     for line in input.chunks(105) {

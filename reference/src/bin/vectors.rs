@@ -1,5 +1,6 @@
-//! `vectors write planner DIR` stores the vectors made by the reference;
-//! `vectors check planner DIR` says whether the stored ones are still the same.
+//! `vectors write KIND DIR` stores the vectors made by the reference;
+//! `vectors check KIND DIR` says whether the stored ones are still the same.
+//! The kind is `planner` or `motion`.
 
 use reference::vectors::{run, Failure};
 use std::env;
@@ -12,7 +13,7 @@ fn main() -> ExitCode {
     match command(&words) {
         Ok(()) => ExitCode::SUCCESS,
         Err(Failure::Usage) => {
-            eprintln!("usage: vectors write|check planner DIR");
+            eprintln!("usage: vectors write|check planner|motion DIR");
             ExitCode::from(2)
         }
         Err(Failure::Message(message)) => {

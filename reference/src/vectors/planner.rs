@@ -2,14 +2,14 @@
 
 mod boundaries;
 mod coverage;
-mod edges;
+pub(super) mod edges;
 mod equalities;
-mod field;
-mod from_intervals;
-mod longest;
-mod paper;
+pub(super) mod field;
+pub(super) mod from_intervals;
+pub(super) mod longest;
+pub(super) mod paper;
 mod property;
-mod random;
+pub(super) mod random;
 mod text;
 mod wrapping;
 

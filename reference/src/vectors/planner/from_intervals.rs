@@ -24,7 +24,7 @@ fn intervals(duration: u64, random: &mut SplitMix64) -> [u64; 4] {
 /// A move with bounds that lead to these intervals: each of J, A, V and W is
 /// what its interval needs. Where the whole numbers are too coarse for that,
 /// the intervals come out near.
-fn move_from(displacement: i64, [a, b, c, e]: [u64; 4], random: &mut SplitMix64) -> Move {
+pub fn move_from(displacement: i64, [a, b, c, e]: [u64; 4], random: &mut SplitMix64) -> Move {
     let grains = COUNT_GRAINS as u64 * displacement.unsigned_abs();
     let velocity = needing(grains, e, random);
     let acceleration = needing(velocity, c, random);

@@ -1,0 +1,160 @@
+-- Demand 3: the theorem `demand-3` proves the claim of specs/Demand3.antt. It rests on the rules (planner), on the laws of the profile
+-- (profile) and on the promises of the entries alone. Assumes nothing.
+use mathlib.Core.List.{List, [], _∷_, _++_}
+use mathlib.Core.Path.{_≡_, refl, sym, ap, subst, _∙_}
+use Prim.Native.Nat.{ℕ, zero, suc, _+_, _*_, _≤_, _<_, zero-le}
+use native.Mathlib.Nat.{le-trans, le-refl}
+use native.Mathlib.Omega.{arith}
+use borrow.Author.Tests.{le-ltb}
+use lib.Dec.{ltb, le→leb, lt→ltb}
+use lib.IntN.{ℤ, pos, natAbs, _+ℤ_, _-ℤ_, _*ℤ_}
+use lib.ListN.{length, getD, drop, List·getD-append}
+use lib.Signed.{_≤ℤ_, _<ℤ_}
+use Rattle.planner.specs.Quantities.{distance, unitsPerCount}
+use Rattle.planner.specs.Intervals as rule
+use Rattle.planner.specs.Durations as durations
+use Rattle.planner.specs.Outcome.{planned, Plans}
+use Rattle.planner.specs.Accepted.{Accepted}
+use Rattle.planner.proofs.Acceptance.{accepted-outcome}
+use Rattle.planner.proofs.PlannedFacts.{planned-facts}
+use Rattle.motion.specs.Values as value
+use Rattle.motion.specs.Result.{Result, refused, given}
+use Rattle.motion.specs.Sampling.{Values, valuesWith, sampleWith, Samples}
+use Rattle.motion.specs.Tables.{rowsFrom, tableOf, tableResult, FillsPositions}
+use Rattle.motion.specs.Demand3.{Demand3, Claim}
+use Rattle.motion.proofs.CountLaws.{one-count}
+use Rattle.motion.proofs.EntryLaws.{Entered, passes}
+use Rattle.motion.proofs.FillLaws.{length-rows}
+use Rattle.motion.proofs.DirectedLaws as directed
+
+-- the values of an answer
+valuesOf : Result Values → Values
+valuesOf (refused number) = record { snap = pos 0; jerk = pos 0; acceleration = pos 0; velocity = pos 0; position = pos 0; count = pos 0 }
+valuesOf (given v) = v
+
+-- row k of a table
+row-at : (row : ℕ → ℤ) (j n k : ℕ) → k < n → getD (rowsFrom row j n) k (pos 0) ≡ row (j + k)
+unfolding rowsFrom
+row-at row j zero k h = absurd (omega arith)
+row-at row j (suc n) zero h = ap row (omega arith)
+row-at row j (suc n) (suc k) h = row-at row (suc j) n k (omega arith) ∙ ap row (omega arith)
+
+module _ (X : ℤ) (V₀ A₀ J₀ S₀ : ℕ) (h : Accepted X V₀ A₀ J₀ S₀) where
+  abbrev a : ℕ
+  a = rule.a (distance X) V₀ A₀ J₀ S₀
+
+  abbrev b : ℕ
+  b = rule.b (distance X) V₀ A₀ J₀ S₀
+
+  abbrev c : ℕ
+  c = rule.c (distance X) V₀ A₀ J₀ S₀
+
+  abbrev e : ℕ
+  e = rule.e (distance X) V₀ A₀ J₀ S₀
+
+  abbrev N : ℕ
+  N = value.N X V₀ A₀ J₀ S₀
+
+  -- the rule's own plan
+  plan : Entered X V₀ A₀ J₀ S₀ a b c e (durations.D (distance X) a b c e) (durations.shortfall (distance X) a b c e)
+  plan =
+      let o = accepted-outcome X V₀ A₀ J₀ S₀ h in
+      record { facts = planned-facts (record { outcome-is = sym o }); outcome-is = o }
+
+  -- what the one-sample entry gives
+  sampled : {k : ℕ} {o : Result Values} → k ≤ N → (p : Samples X V₀ A₀ J₀ S₀ k o) → o ≡ given (valuesWith X V₀ A₀ J₀ S₀ k (p .count))
+  unfolding sampleWith
+  sampled {k} l p = p .outcome-is ∙ passes plan 9 _ _ (le-ltb N k l)
+
+  -- what the table holds
+  place : (old new : List ℤ) (rows : Result ℕ) → N + 1 ≤ length old → FillsPositions X V₀ A₀ J₀ S₀ old rows new → (k : ℕ) → k ≤ N → getD new k (pos 0) ≡ value.position X V₀ A₀ J₀ S₀ k
+  unfolding FillsPositions tableResult tableOf
+  place old new rows l p k m =
+      let row = value.position X V₀ A₀ J₀ S₀ in
+      let filled = passes plan 8 (ltb (length old) (N + 1)) (N + 1) (le-ltb (length old) (N + 1) l) in
+      let new-is = p .table-is ∙ ap (λ (r : Result ℕ). tableOf r (rowsFrom row 0 (N + 1)) old) filled in
+      let inside : k < length (rowsFrom row 0 (N + 1)) = omega (arith, length-rows row 0 (N + 1)) in
+      ap (λ (t : List ℤ). getD t k (pos 0)) new-is
+      ∙ List·getD-append (rowsFrom row 0 (N + 1)) _ (pos 0) k inside
+      ∙ row-at row 0 (N + 1) k (omega arith)
+      ∙ ap row (omega arith)
+
+  module _ (sample : ℕ → Result Values) (promised : (k : ℕ) → k ≤ N → Samples X V₀ A₀ J₀ S₀ k (sample k)) where
+    values : (k : ℕ) (l : k ≤ N) → valuesOf (sample k) ≡ valuesWith X V₀ A₀ J₀ S₀ k (promised k l .count)
+    unfolding valuesOf
+    values k l = ap valuesOf (sampled l (promised k l))
+
+    -- each value is the rule's
+    snap : (k : ℕ) → k ≤ N → valuesOf (sample k) .snap ≡ value.snap X V₀ A₀ J₀ S₀ k
+    unfolding valuesWith
+    snap k l = ap (λ (v : Values). v .snap) (values k l)
+
+    jerk : (k : ℕ) → k ≤ N → valuesOf (sample k) .jerk ≡ value.jerk X V₀ A₀ J₀ S₀ k
+    unfolding valuesWith
+    jerk k l = ap (λ (v : Values). v .jerk) (values k l)
+
+    acceleration : (k : ℕ) → k ≤ N → valuesOf (sample k) .acceleration ≡ value.acceleration X V₀ A₀ J₀ S₀ k
+    unfolding valuesWith
+    acceleration k l = ap (λ (v : Values). v .acceleration) (values k l)
+
+    velocity : (k : ℕ) → k ≤ N → valuesOf (sample k) .velocity ≡ value.velocity X V₀ A₀ J₀ S₀ k
+    unfolding valuesWith
+    velocity k l = ap (λ (v : Values). v .velocity) (values k l)
+
+    position : (k : ℕ) → k ≤ N → valuesOf (sample k) .position ≡ value.position X V₀ A₀ J₀ S₀ k
+    unfolding valuesWith
+    position k l = ap (λ (v : Values). v .position) (values k l)
+
+    count : (k : ℕ) (l : k ≤ N) → valuesOf (sample k) .count ≡ promised k l .count
+    unfolding valuesWith
+    count k l = ap (λ (v : Values). v .count) (values k l)
+
+    answered : (k : ℕ) → k ≤ N → sample k ≡ given (valuesOf (sample k))
+    answered k l = sampled l (promised k l) ∙ ap given (sym (values k l))
+
+not-below-zero : (n : ℕ) → pos 0 ≤ℤ pos n
+not-below-zero n = record { le = le→leb 0 n zero-le }
+
+below : (m n : ℕ) → m < n → pos m <ℤ pos n
+below m n h = record { lt = lt→ltb m n h }
+
+pub demand-3 : Claim
+unfolding value.N value.P value.snap value.jerk value.acceleration value.velocity value.position value.exactPosition
+demand-3 X V₀ A₀ J₀ S₀ h sample promised old new rows room filled =
+    let f = plan X V₀ A₀ J₀ S₀ h .facts in
+    let at-snap = snap X V₀ A₀ J₀ S₀ h sample promised in
+    let at-jerk = jerk X V₀ A₀ J₀ S₀ h sample promised in
+    let at-acceleration = acceleration X V₀ A₀ J₀ S₀ h sample promised in
+    let at-velocity = velocity X V₀ A₀ J₀ S₀ h sample promised in
+    let at-position = position X V₀ A₀ J₀ S₀ h sample promised in
+    let last = le-refl (value.N X V₀ A₀ J₀ S₀) in
+    record {
+      at = λ k. valuesOf (sample k);
+      answered = answered X V₀ A₀ J₀ S₀ h sample promised;
+      table-position = λ k l. place X V₀ A₀ J₀ S₀ h old new rows room filled k l ∙ sym (at-position k l);
+      jerk-rest = at-jerk 0 zero-le ∙ directed.jerk-rest _ _ _ _ _ _;
+      acceleration-rest = at-acceleration 0 zero-le ∙ directed.acceleration-rest _ _ _ _ _ _;
+      velocity-rest = at-velocity 0 zero-le ∙ directed.velocity-rest _ _ _ _ _ _;
+      position-rest = at-position 0 zero-le ∙ directed.position-rest _ _ _ _ _ _;
+      jerk-sum = λ k l. rw (at-jerk (k + 1) (omega arith), at-jerk k (omega arith), at-snap k (omega arith)) (directed.jerk-sum _ _ _ _ _ _ k);
+      acceleration-sum = λ k l.
+          rw (at-acceleration (k + 1) (omega arith), at-acceleration k (omega arith), at-jerk k (omega arith)) (directed.acceleration-sum _ _ _ _ _ _ k);
+      velocity-sum = λ k l.
+          rw (at-velocity (k + 1) (omega arith), at-velocity k (omega arith), at-acceleration k (omega arith)) (directed.velocity-sum _ _ _ _ _ _ k);
+      position-sum = λ k l.
+          rw (at-position (k + 1) (omega arith), at-position k (omega arith), at-velocity k (omega arith)) (directed.position-sum _ _ _ _ _ _ k);
+      snap-bound = λ k l. rw (at-snap k l) (directed.snap-bound f k);
+      jerk-bound = λ k l. rw (at-jerk k l) (directed.jerk-bound f k);
+      acceleration-bound = λ k l. rw (at-acceleration k l) (directed.acceleration-bound f k);
+      velocity-bound = λ k l. rw (at-velocity k l) (directed.velocity-bound f k);
+      forward = λ s k l. rw (at-velocity k l) (directed.forward f s k);
+      backward = λ s k l. rw (at-velocity k l) (directed.backward f s k);
+      never-past = λ s k l. rw (at-position k l, directed.lag-ahead f s k) (not-below-zero _);
+      below-half = λ s k l. rw (at-position k l, directed.lag-ahead f s k) (below _ _ (directed.lag-half f k));
+      never-past-back = λ s k l. rw (at-position k l, directed.lag-behind f s k) (not-below-zero _);
+      below-half-back = λ s k l. rw (at-position k l, directed.lag-behind f s k) (below _ _ (directed.lag-half f k));
+      jerk-end = at-jerk _ last ∙ directed.jerk-end f;
+      acceleration-end = at-acceleration _ last ∙ directed.acceleration-end f;
+      velocity-end = at-velocity _ last ∙ directed.velocity-end f;
+      count-end = count X V₀ A₀ J₀ S₀ h sample promised _ last ∙ one-count _ _ _ (promised _ last .count-is) (directed.count-end f);
+    }

@@ -1,0 +1,96 @@
+-- From the planner's answer to what an entry promises: what it may do with a plan, and which refusal comes first. Assumes nothing.
+use mathlib.Core.Bool.{Bool, true, false}
+use mathlib.Core.List.{List, [], _∷_}
+use mathlib.Core.Path.{_≡_, refl, sym, ap, subst, _∙_}
+use Prim.Native.Nat.{ℕ, _+_, _*_, _≤_, _^_}
+use native.Mathlib.Nat.{le-trans, mul-le-mul-left}
+use native.Mathlib.Omega.{arith}
+use lib.IntN.{ℤ, natAbs}
+use Rattle.planner.specs.Quantities.{distance, unitsPerCount}
+use Rattle.planner.specs.Outcome.{Outcome, planned, Check, check, outcomeOf, Plans, mostCounts}
+use Rattle.planner.specs.Outcome as plan
+use Rattle.planner.specs.Intervals as rule
+use Rattle.planner.specs.Durations as durations
+use Rattle.planner.specs.Facts.{PlanFacts}
+use Rattle.planner.specs.Answer.{outcome}
+use Rattle.planner.specs.Accepted.{IsPlanned}
+use Rattle.planner.specs.declared.Refusal.{Refusal}
+use Rattle.planner.specs.declared.Plan.{Plan}
+use Rattle.planner.specs.declared.PlanAnswer.{PlanAnswer}
+use Rattle.planner.specs.declared.PlanAnswer.the-variants.{Planned, Refused}
+use Rattle.planner.proofs.PlannedFacts.{answer-facts}
+use Rattle.motion.specs.Direction as direction
+use Rattle.motion.specs.Values as value
+use Rattle.motion.specs.Result.{Result, refused, given, firstOf, resultOf}
+use Rattle.motion.specs.Inner.Planned.{Playable}
+
+-- an answer that is a refusal holds no plan
+pub not-planned : {r : PlanAnswer} {x : Refusal} → r ≡ Refused x → IsPlanned (outcome r) → ⊥
+not-planned q p = subst (λ (r : PlanAnswer). IsPlanned (outcome r)) q p
+
+-- the move was planned with these numbers
+pub record Entered (X : ℤ) (V₀ A₀ J₀ S₀ a b c e D short : ℕ) : Type 0 where
+  pub facts : PlanFacts X V₀ A₀ J₀ S₀ a b c e D short
+  pub outcome-is : outcomeOf X V₀ A₀ J₀ S₀ ≡ planned a b c e D short
+
+module _ {X : ℤ} {V₀ A₀ J₀ S₀ : ℕ} where
+  pub entered :
+      {r : PlanAnswer} {x : Plan}
+      → Plans X V₀ A₀ J₀ S₀ (outcome r)
+      → r ≡ Planned x
+      → Entered X V₀ A₀ J₀ S₀ (x .a) (x .b) (x .c) (x .e) (x .snap) (x .shortfall)
+  entered h q = record { facts = answer-facts h q; outcome-is = sym (h .outcome-is) ∙ ap outcome q }
+
+  -- a refusal of the planner is the entry's
+  pub refused-first :
+      {A : Type 0} {o : Outcome} {n : ℕ} (own : List Check) (x : A)
+      → Plans X V₀ A₀ J₀ S₀ o
+      → o ≡ plan.refused n
+      → resultOf (outcomeOf X V₀ A₀ J₀ S₀) own x ≡ refused n
+  unfolding resultOf
+  refused-first own x h q = ap (λ (o : Outcome). resultOf o own x) (sym (h .outcome-is) ∙ q)
+
+module _ {X : ℤ} {V₀ A₀ J₀ S₀ a b c e D short : ℕ} (h : Entered X V₀ A₀ J₀ S₀ a b c e D short) where
+  abbrev rules : PlanFacts X V₀ A₀ J₀ S₀ a b c e D short
+  rules = h .facts
+
+  far : distance X ≤ 2 ^ 60
+  unfolding distance
+  far = mul-le-mul-left unitsPerCount (rules .accepted .in-range .near)
+
+  pub playable : Playable a b c e D
+  playable =
+      record {
+        ordered = rules .ordered;
+        samples = rules .samples;
+        reach = le-trans (omega (arith, rules .whole)) far;
+      }
+
+  -- the entry's own checks come next
+  pub own-checks : {A : Type 0} (own : List Check) (x : A) → resultOf (outcomeOf X V₀ A₀ J₀ S₀) own x ≡ firstOf own x
+  unfolding resultOf
+  own-checks own x = ap (λ (o : Outcome). resultOf o own x) (h .outcome-is)
+
+  pub applies : {A : Type 0} (n : ℕ) (t : Bool) (x : A) → t ≡ true → resultOf (outcomeOf X V₀ A₀ J₀ S₀) (check n t ∷ []) x ≡ refused n
+  unfolding firstOf
+  applies n t x k = own-checks (check n t ∷ []) x ∙ ap (λ (t : Bool). firstOf (check n t ∷ []) x) k
+
+  pub passes : {A : Type 0} (n : ℕ) (t : Bool) (x : A) → t ≡ false → resultOf (outcomeOf X V₀ A₀ J₀ S₀) (check n t ∷ []) x ≡ given x
+  unfolding firstOf
+  passes n t x k = own-checks (check n t ∷ []) x ∙ ap (λ (t : Bool). firstOf (check n t ∷ []) x) k
+
+  -- what is made of the plan's numbers is what is made of the rule's
+  pub by-rule :
+      {T : Type 0} (F : (a b c e D : ℕ) → T)
+      → F a b c e D
+      ≡ F (rule.a (distance X) V₀ A₀ J₀ S₀) (rule.b (distance X) V₀ A₀ J₀ S₀) (rule.c (distance X) V₀ A₀ J₀ S₀) (rule.e (distance X) V₀ A₀ J₀ S₀)
+      (durations.D (distance X) (rule.a (distance X) V₀ A₀ J₀ S₀) (rule.b (distance X) V₀ A₀ J₀ S₀) (rule.c (distance X) V₀ A₀ J₀ S₀) (rule.e (distance X) V₀ A₀ J₀ S₀))
+  by-rule F = rw (rules .snap-rule, rules .a-rule, rules .b-rule, rules .c-rule, rules .e-rule) refl
+
+  pub samples-are : durations.N a b c e ≡ value.N X V₀ A₀ J₀ S₀
+  unfolding value.N
+  samples-are = by-rule (λ a b c e D. durations.N a b c e)
+
+  pub position-is : (k : ℕ) → direction.position X a b c e D k ≡ value.position X V₀ A₀ J₀ S₀ k
+  unfolding value.position
+  position-is k = by-rule (λ a b c e D. direction.position X a b c e D k)

@@ -1,0 +1,17 @@
+pub mod DirectionLaws
+pub mod PlaceLaws
+pub mod StepLaws
+pub mod RunLaws
+pub mod HalvesLaws
+pub mod ListedLaws
+pub mod RowLaws
+pub mod PlayLaws
+pub mod TableLaws
+pub mod EntryLaws
+pub mod SamplingLaws
+pub mod FillLaws
+pub mod DirectedLaws
+pub mod Demand3
+pub mod IntegerLaws
+pub mod CountLaws
+pub mod RoundingLaws

@@ -1,0 +1,98 @@
+-- Rounding by the machine's quotient and remainder, which go towards zero, gives the count. Assumes nothing.
+use mathlib.Core.Bool.{Bool, true, false, true≢false}
+use mathlib.Core.Path.{_≡_, refl, sym, ap, subst}
+use Prim.Native.Nat.{ℕ, zero, suc, _+_, _*_, _/_, _%_, _≤_, _<_, _^_}
+use native.Mathlib.Nat.{mod-lt, div-add-mod, le-refl}
+use native.Mathlib.Numerals.{add-one}
+use native.Mathlib.Omega.{arith}
+use borrow.Author.Tests.{leb-true, leb-false}
+use lib.IntN.{ℤ, pos, negsuc, negℤ, natAbs, _+ℤ_, _-ℤ_}
+use lib.Signed.{leZ, quotZ, remZ, mag, natAbs-le}
+use mir.Syntax.{w64}
+use mir.Val.{SFits}
+use Rattle.planner.specs.Quantities.{unitsPerCount}
+use Rattle.motion.specs.Count.{IsCount}
+use Rattle.motion.proofs.CountLaws.{mirrored, above-half, below-half, count-size}
+
+abbrev pub half : ℕ
+half = 549755813888
+
+parts : (n : ℕ) → n ≡ unitsPerCount * (n / unitsPerCount) + n % unitsPerCount
+parts n = sym (div-add-mod n unitsPerCount)
+
+rest-below : (n : ℕ) → n % unitsPerCount < unitsPerCount
+rest-below n = mod-lt n (omega arith)
+
+rounds-up : (n : ℕ) → half ≤ n % unitsPerCount → IsCount (pos n) (pos (suc (n / unitsPerCount)))
+rounds-up n h = above-half n (n / unitsPerCount) (n % unitsPerCount) (parts n) (rest-below n) (omega arith)
+
+rounds-down : (n : ℕ) → n % unitsPerCount < half → IsCount (pos n) (pos (n / unitsPerCount))
+rounds-down n h = below-half n (n / unitsPerCount) (n % unitsPerCount) (parts n) (omega arith)
+
+-- the tests of the remainder of a negative position
+not-above : (r : ℕ) → leZ (pos half) (negℤ (pos r)) ≡ true → ⊥
+not-above zero h = omega (arith, leb-true half 0 h)
+not-above (suc r) h = true≢false (sym h)
+
+far : (r : ℕ) → leZ (negℤ (pos r)) (negsuc 549755813887) ≡ true → half ≤ r
+far zero h = absurd (true≢false (sym h))
+far (suc r) h = omega (arith, leb-true 549755813887 r h)
+
+close : (r : ℕ) → leZ (negℤ (pos r)) (negsuc 549755813887) ≡ false → r < half
+close zero h = omega arith
+close (suc r) h = omega (arith, leb-false 549755813887 r h)
+
+one-less : (q : ℕ) → negsuc q ≡ negℤ (pos q) -ℤ pos 1
+one-less zero = refl
+one-less (suc q) = ap negsuc (omega arith)
+
+pub up : (x : ℤ) → leZ (pos half) (remZ x (pos unitsPerCount)) ≡ true → IsCount x (quotZ x (pos unitsPerCount) +ℤ pos 1)
+up (pos n) h = rw (add-one (n / unitsPerCount)) (rounds-up n (leb-true half (n % unitsPerCount) h))
+up (negsuc n) h = absurd (not-above (suc n % unitsPerCount) h)
+
+pub down : (x : ℤ) → leZ (remZ x (pos unitsPerCount)) (negsuc 549755813887) ≡ true → IsCount x (quotZ x (pos unitsPerCount) -ℤ pos 1)
+down (pos n) h = absurd (true≢false (sym h))
+down (negsuc n) h =
+    subst (IsCount (negsuc n)) (one-less (suc n / unitsPerCount))
+    (mirrored (pos (suc n)) (pos (suc (suc n / unitsPerCount))) (rounds-up (suc n) (far (suc n % unitsPerCount) h)))
+
+pub stay :
+    (x : ℤ)
+    → leZ (pos half) (remZ x (pos unitsPerCount)) ≡ false
+    → leZ (remZ x (pos unitsPerCount)) (negsuc 549755813887) ≡ false
+    → IsCount x (quotZ x (pos unitsPerCount))
+stay (pos n) h k = rounds-down n (leb-false half (n % unitsPerCount) h)
+stay (negsuc n) h k = mirrored (pos (suc n)) (pos (suc n / unitsPerCount)) (rounds-down (suc n) (close (suc n % unitsPerCount) k))
+
+-- no step of the rounding leaves the range
+small-quotient : (n m : ℕ) → unitsPerCount * m ≤ n + 1 → mag (negℤ (pos m)) ≤ n
+small-quotient n zero h = omega arith
+small-quotient n (suc m) h = omega arith
+
+pub quotient-fits : (x : ℤ) → SFits w64 x → SFits w64 (quotZ x (pos unitsPerCount))
+quotient-fits (pos n) h = record { sfits = omega (arith, h .sfits, parts n) }
+quotient-fits (negsuc n) h = record { sfits = omega (arith, h .sfits, parts (suc n), small-quotient n (suc n / unitsPerCount) (omega (arith, parts (suc n)))) }
+
+size-limit : (x : ℤ) → SFits w64 x → natAbs x ≤ 2 ^ 63
+size-limit x h = natAbs-le x (h .sfits)
+
+pub count-fits : (x c : ℤ) → SFits w64 x → IsCount x c → SFits w64 c
+count-fits x (pos q) h k = record { sfits = omega (arith, size-limit x h, count-size x (pos q) k) }
+count-fits x (negsuc q) h k = record { sfits = omega (arith, size-limit x h, count-size x (negsuc q) k) }
+
+-- every position has a count
+pub record HasCount (x : ℤ) : Type 0 where
+  pub count : ℤ
+  pub is : IsCount x count
+
+by-test :
+    (x : ℤ)
+    (s : Bool) → leZ (pos half) (remZ x (pos unitsPerCount)) ≡ s
+    → (t : Bool) → leZ (remZ x (pos unitsPerCount)) (negsuc 549755813887) ≡ t
+    → HasCount x
+by-test x true h t k = record { count = quotZ x (pos unitsPerCount) +ℤ pos 1; is = up x h }
+by-test x false h true k = record { count = quotZ x (pos unitsPerCount) -ℤ pos 1; is = down x k }
+by-test x false h false k = record { count = quotZ x (pos unitsPerCount); is = stay x h k }
+
+pub count-of : (x : ℤ) → HasCount x
+count-of x = by-test x (leZ (pos half) (remZ x (pos unitsPerCount))) refl (leZ (remZ x (pos unitsPerCount)) (negsuc 549755813887)) refl

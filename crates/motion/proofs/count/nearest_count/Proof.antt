@@ -1,0 +1,71 @@
+-- `nearest_count` meets its contract: the tests of the remainder say which count is the nearest. Assumes nothing.
+use mathlib.Core.Bool.{true, false}
+use mathlib.Core.Path.{_≡_, sym, ap, _∙_}
+use native.Mathlib.Omega.{arith}
+use mir.Syntax.{w64}
+use mir.Val.{toZ, ofZ, SFits}
+use mir.ValLaws.{sfits-le}
+use mir.Facts.{toZ-ofZ}
+use lib.IntN.{ℤ, pos, negsuc, _+ℤ_, _-ℤ_}
+use lib.Signed.{leZ, quotZ, remZ, mag-rem}
+use Rattle.planner.specs.Quantities.{unitsPerCount}
+use Rattle.motion.specs.Count.{IsCount}
+use Rattle.motion.proofs.RoundingLaws.{half, up, down, stay, quotient-fits, count-fits}
+use Rattle.motion.proofs.count.nearest_count.Statement.{statement}
+use Rattle.motion.proofs.count.nearest_count.Tie as tie
+
+-- the quotient and the remainder as the machine reads them back
+module _ (x : ℤ) (h : SFits w64 x) where
+  whole : toZ w64 (ofZ w64 (quotZ (toZ w64 (ofZ w64 x)) (pos unitsPerCount))) ≡ quotZ x (pos unitsPerCount)
+  whole = rw (toZ-ofZ h) (toZ-ofZ (quotient-fits x h))
+
+  rest : toZ w64 (ofZ w64 (remZ (toZ w64 (ofZ w64 x)) (pos unitsPerCount))) ≡ remZ x (pos unitsPerCount)
+  rest = rw (toZ-ofZ h) (toZ-ofZ (sfits-le (mag-rem x (pos unitsPerCount)) h))
+
+above : (c : tie.Then1) → IsCount (c .before .args .position) (quotZ (c .before .args .position) (pos unitsPerCount) +ℤ pos 1)
+above c =
+    let x = c .before .args .position in
+    up x (sym (ap (leZ (pos half)) (rest x (c .before .fits .position))) ∙ c .if1 .taken)
+
+below : (c : tie.Then2) → IsCount (c .before .before .args .position) (quotZ (c .before .before .args .position) (pos unitsPerCount) -ℤ pos 1)
+below c =
+    let x = c .before .before .args .position in
+    down x (sym (ap (λ z. leZ z (negsuc 549755813887)) (rest x (c .before .before .fits .position))) ∙ c .if2 .taken)
+
+div-whole : tie.Need-div-whole
+div-whole c = rw (toZ-ofZ (c .fits .position)) (omega arith, quotient-fits (c .args .position) (c .fits .position))
+
+rem-rest : tie.Need-rem-rest
+rem-rest c = rw (toZ-ofZ (c .fits .position)) (omega arith, quotient-fits (c .args .position) (c .fits .position))
+
+add-result : tie.Need-add-result
+add-result c =
+    rw (whole (c .before .args .position) (c .before .fits .position))
+    (count-fits (c .before .args .position) _ (c .before .fits .position) (above c))
+
+returns : tie.Need-returns
+returns c =
+    rw (whole (c .before .args .position) (c .before .fits .position), toZ-ofZ (count-fits (c .before .args .position) _ (c .before .fits .position) (above c)))
+    (above c)
+
+sub-result : tie.Need-sub-result
+sub-result c =
+    rw (whole (c .before .before .args .position) (c .before .before .fits .position))
+    (count-fits (c .before .before .args .position) _ (c .before .before .fits .position) (below c))
+
+returns-2 : tie.Need-returns-2
+returns-2 c =
+    rw (whole (c .before .before .args .position) (c .before .before .fits .position), toZ-ofZ (count-fits (c .before .before .args .position) _ (c .before .before .fits .position) (below c)))
+    (below c)
+
+returns-3 : tie.Need-returns-3
+returns-3 c =
+    let x = c .before .before .args .position in
+    let h = c .before .before .fits .position in
+    rw (whole x h)
+    (stay x (sym (ap (leZ (pos half)) (rest x h)) ∙ c .before .if1 .left)
+    (sym (ap (λ z. leZ z (negsuc 549755813887)) (rest x h)) ∙ c .if2 .left))
+
+pub nearest-count-spec : {M : Type 1} → statement M
+nearest-count-spec =
+    tie.close (tie.spec div-whole rem-rest add-result returns sub-result returns-2 returns-3)

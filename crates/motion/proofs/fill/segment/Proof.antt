@@ -1,0 +1,84 @@
+-- `segment` meets its contract. The loop's invariant: the run that is left comes to the same as the run asked for. Assumes nothing.
+use mathlib.Core.List.{_∷_}
+use mathlib.Core.Path.{_≡_, subst}
+use Prim.Native.Nat.{ℕ, _-_, _<_}
+use native.Mathlib.Omega.{arith}
+use mir.Syntax.{w64}
+use mir.Val.{toZ, ofZ}
+use mir.Facts.{toZ-ofZ}
+use lib.IntN.{ℤ}
+use lib.ListN.{replicate, length}
+use Rattle.motion.specs.Inner.Runs.{Ran}
+use Rattle.motion.proofs.RunLaws.{Left, all-left, one-done, one-of, first-fits, none-of, ran-length}
+use Rattle.motion.proofs.fill.segment.Statement.{statement}
+use Rattle.motion.proofs.fill.segment.Tie as tie
+
+abbrev Inv-loop : tie.InvT-loop
+Inv-loop table₀ count snap current₀ left₀ table current left =
+    Left (replicate left (toZ w64 snap)) current table (replicate count (toZ w64 snap)) current₀ table₀
+
+abbrev μ-loop : tie.MeasureT-loop
+μ-loop table₀ count snap current₀ left₀ table current left = left
+
+loop-holds : tie.Need-loop-holds Inv-loop μ-loop
+loop-holds c = all-left (rw (toZ-ofZ (c .fits .snap)) (c .pre))
+
+-- there is a snap left to play
+begun :
+    (c : tie.In-loop Inv-loop μ-loop)
+    → Left (toZ w64 (ofZ w64 (c .before .before .args .snap)) ∷ replicate (c .before .loop .left - 1) (toZ w64 (ofZ w64 (c .before .before .args .snap)))) (c .before .loop .current) (c .before .loop .table)
+    (replicate (c .before .before .args .count) (toZ w64 (ofZ w64 (c .before .before .args .snap)))) (c .before .before .args .state) (c .before .before .args .table .now)
+begun c = one-of _ _ (c .loop-test .taken) (c .before .loop .inv)
+
+place : (c : tie.In-loop Inv-loop μ-loop) → c .before .loop .current .sample < length (c .before .loop .table)
+place c = let r = begun c in omega (arith, r .can .room)
+
+mul-position : tie.Need-mul-position Inv-loop μ-loop
+mul-position c = let r = begun (c .before) in omega (arith, place (c .before), r .same-length)
+
+slice-set-from-position : tie.Need-slice-set-from-position Inv-loop μ-loop
+slice-set-from-position c = place (c .before)
+
+step-requires : tie.Need-step-requires Inv-loop μ-loop
+step-requires c κs = first-fits (begun (c .before))
+
+sub-left : tie.Need-sub-left Inv-loop μ-loop
+sub-left c = c .before .before .loop-test .taken
+
+loop-less : tie.Need-loop-less Inv-loop μ-loop
+loop-less c = omega arith
+
+loop-again : tie.Need-loop-again Inv-loop μ-loop
+loop-again c =
+    rw (c .step .ensures, toZ-ofZ {w = w64} {z = c .before .before .before .loop .current .position} (record { sfits = c .before .struct-told .given .1 .1 .1 .1 .0 .1 }))
+    (one-done (begun (c .before .before)))
+
+ran :
+    (c : tie.After-loop Inv-loop μ-loop)
+    → Ran (replicate (c .before .before .args .count) (c .before .before .args .snap)) (c .before .before .args .state) (c .before .before .args .table .now) (c .before .loop .table) (c .before .loop .current)
+ran c =
+    subst
+    (λ x. Ran (replicate (c .before .before .args .count) x) (c .before .before .args .state) (c .before .before .args .table .now) (c .before .loop .table) (c .before .loop .current))
+    (toZ-ofZ (c .before .before .fits .snap)) (none-of _ _ (c .loop-test .left) (c .before .loop .inv))
+
+same-length : tie.Need-same-length Inv-loop μ-loop
+same-length c = ran-length (ran c)
+
+returns : tie.Need-returns Inv-loop μ-loop
+returns c = ran c
+
+pub segment-spec : {M : Type 1} → statement M
+segment-spec =
+    tie.close
+    (tie.spec
+    Inv-loop
+    μ-loop
+    loop-holds
+    mul-position
+    slice-set-from-position
+    step-requires
+    sub-left
+    loop-less
+    loop-again
+    same-length
+    returns)

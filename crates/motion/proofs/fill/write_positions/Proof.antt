@@ -1,0 +1,38 @@
+-- `write_positions` meets its contract. Assumes nothing.
+use mir.Syntax.{w64}
+use mir.Facts.{toZ-ofZ}
+use Rattle.motion.proofs.FillLaws.{short, written}
+use borrow.Author.Needs.{needs}
+use Rattle.motion.proofs.fill.write_positions.Statement.{statement}
+use Rattle.motion.proofs.fill.write_positions.Tie as tie
+use Rattle.motion.proofs.fill.write_positions.Reads as reads
+use Rattle.motion.proofs.fill.write_positions.Lts as lts
+use Rattle.motion.proofs.fill.fill_table.Reads as fill-table-reads
+use Rattle.motion.proofs.planned.samples_in_plan.Reads as samples-in-plan-reads
+
+samples-in-plan-requires : tie.Need-samples-in-plan-requires
+samples-in-plan-requires c κs = search needs
+
+add-rows : tie.Need-add-rows
+add-rows c = search needs
+
+returns : tie.Need-returns
+returns c = short _ _ _ _ _ _ _ (rw (c .before .samples-in-plan .ensures) at (c .if1 .taken))
+
+fill-table-requires : tie.Need-fill-table-requires
+fill-table-requires c κs = search needs
+
+same-length : tie.Need-same-length
+same-length c = search needs
+
+returns-2 : tie.Need-returns-2
+returns-2 c =
+    let d = c .before .before .before in
+    let back = toZ-ofZ {w = w64} {z = d .before .before .args .displacement} (d .before .before .fits .displacement) in
+    rw (d .before .samples-in-plan .ensures)
+    (written _ _ _ _ _ _ _ (rw (d .before .samples-in-plan .ensures) at (d .if1 .left)) (rw back at (c .before .fill-table .ensures)))
+
+pub write-positions-spec : {M : Type 1} → statement M
+write-positions-spec =
+    tie.close
+    (tie.spec samples-in-plan-requires add-rows returns fill-table-requires same-length returns-2)

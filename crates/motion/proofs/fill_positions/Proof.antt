@@ -1,0 +1,52 @@
+-- `fill_positions` meets its contract: the planner's answer, taken apart, leads to the refusal or to the plan's rows. Assumes nothing.
+use borrow.Author.Needs.{needs}
+use mir.Syntax.{w64}
+use mir.Facts.{toZ-ofZ}
+use Rattle.motion.specs.Tables.{FillsPositions}
+use Rattle.motion.proofs.EntryLaws.{entered, not-planned, playable}
+use Rattle.motion.proofs.FillLaws.{fills-refused, fills-positions}
+use Rattle.motion.proofs.fill_positions.Statement.{statement}
+use Rattle.motion.proofs.fill_positions.Tie as tie
+
+plan-move-requires : tie.Need-plan-move-requires
+plan-move-requires c κs = search needs
+
+enum-known-answer : tie.Need-enum-known-answer
+enum-known-answer c = search needs
+
+enum-told : tie.Need-enum-told
+enum-told c = search needs
+
+unplanned-requires : tie.Need-unplanned-requires
+unplanned-requires c κs = not-planned (c .enum-told .given .1)
+
+returns : tie.Need-returns
+unfolding FillsPositions
+returns c = fills-refused (c .before .before .before .plan-move .ensures) (c .unplanned .ensures)
+
+write-positions-requires : tie.Need-write-positions-requires
+write-positions-requires c κs =
+    let d = c .before .before .before in
+    playable (entered (d .before .before .plan-move .ensures) (d .answer .given .1))
+
+same-length : tie.Need-same-length
+same-length c = search needs
+
+returns-2 : tie.Need-returns-2
+returns-2 c =
+    let d = c .before .before .before .before .before in
+    let back = toZ-ofZ {w = w64} {z = d .before .before .before .args .m .displacement} (record { sfits = c .before .before .struct-told .given .0 .1 }) in
+    fills-positions (entered (d .before .before .plan-move .ensures) (d .answer .given .1)) (rw back at (c .before .write-positions .ensures))
+
+pub fill-positions-spec : {M : Type 1} → statement M
+fill-positions-spec =
+    tie.close
+    (tie.spec
+    plan-move-requires
+    enum-known-answer
+    enum-told
+    unplanned-requires
+    returns
+    write-positions-requires
+    same-length
+    returns-2)

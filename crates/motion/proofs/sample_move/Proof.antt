@@ -1,0 +1,61 @@
+-- `sample_move` meets its contract: the planner's answer, taken apart, leads to the refusal or to the plan's sample. Assumes nothing.
+use borrow.Author.Needs.{needs}
+use mir.Syntax.{w64}
+use mir.Facts.{toZ-ofZ}
+use Rattle.motion.proofs.EntryLaws.{Entered, entered, not-planned, playable}
+use Rattle.motion.proofs.SamplingLaws.{sample-refused, sample-past, sample-given}
+use Rattle.motion.proofs.sample_move.Statement.{statement}
+use Rattle.motion.proofs.sample_move.Tie as tie
+
+plan-move-requires : tie.Need-plan-move-requires
+plan-move-requires c κs = search needs
+
+enum-known-answer : tie.Need-enum-known-answer
+enum-known-answer c = search needs
+
+enum-told : tie.Need-enum-told
+enum-told c = search needs
+
+unplanned-requires : tie.Need-unplanned-requires
+unplanned-requires c κs = not-planned (c .enum-told .given .1)
+
+returns : tie.Need-returns
+returns c = sample-refused (c .before .before .before .plan-move .ensures) (c .unplanned .ensures)
+
+-- the plan that was found
+plan :
+    (c : tie.After-answer)
+    → Entered (c .before .before .before .args .m .displacement) (c .before .before .before .args .m .velocity) (c .before .before .before .args .m .acceleration) (c .before .before .before .args .m .jerk) (c .before .before .before .args .m .snap)
+    (c .answer .given .0 .0 .a) (c .answer .given .0 .0 .b) (c .answer .given .0 .0 .c) (c .answer .given .0 .0 .e) (c .answer .given .0 .0 .snap) (c .answer .given .0 .0 .shortfall)
+plan c = entered (c .before .before .plan-move .ensures) (c .answer .given .1)
+
+samples-in-plan-requires : tie.Need-samples-in-plan-requires
+samples-in-plan-requires c κs = playable (plan (c .before))
+
+returns-2 : tie.Need-returns-2
+returns-2 c = sample-past (plan (c .before .before .before)) (rw (c .before .samples-in-plan .ensures) at (c .if1 .taken))
+
+sample-in-plan-requires : tie.Need-sample-in-plan-requires
+sample-in-plan-requires c κs = (playable (plan (c .before .before .before .before)), rw (c .before .before .samples-in-plan .ensures) at (c .before .if1 .left))
+
+returns-3 : tie.Need-returns-3
+returns-3 c =
+    let d = c .before .before .before in
+    let x = d .before .before .before .before .before .args .m .displacement in
+    let back = toZ-ofZ {w = w64} {z = x} (record { sfits = c .before .struct-told .given .0 .1 }) in
+    sample-given (plan (d .before .before)) (rw (d .samples-in-plan .ensures) at (c .before .before .if1 .left))
+    (rw back at (c .sample-in-plan .ensures))
+
+pub sample-move-spec : {M : Type 1} → statement M
+sample-move-spec =
+    tie.close
+    (tie.spec
+    plan-move-requires
+    enum-known-answer
+    enum-told
+    unplanned-requires
+    returns
+    samples-in-plan-requires
+    returns-2
+    sample-in-plan-requires
+    returns-3)

@@ -1,0 +1,58 @@
+-- `levels_of` meets its contract: D is small enough to be taken either way. Assumes nothing.
+use borrow.Author.Needs.{needs}
+use mathlib.Core.Bool.{true, false}
+use mathlib.Core.Path.{_≡_, refl, sym, ap, _∙_}
+use Prim.Native.Nat.{ℕ, zero, suc, _≤_, _^_}
+use native.Mathlib.Omega.{arith}
+use mir.Syntax.{w64}
+use mir.Val.{toZ, ofZ, SFits}
+use mir.ValLaws.{toZ-pos}
+use mir.Facts.{toZ-ofZ}
+use lib.IntN.{ℤ, pos, negsuc, negℤ, _-ℤ_, +ℤ-idl, negℤ-negℤ}
+use lib.Signed.{ltZ}
+use Rattle.motion.specs.Direction.{along}
+use Rattle.motion.proofs.DirectionLaws.{along-negative, along-positive}
+use Rattle.motion.proofs.snap.levels_of.Statement.{statement}
+use Rattle.motion.proofs.snap.levels_of.Tie as tie
+
+module _ (n : ℕ) (h : n ≤ 2 ^ 60) where
+  -- D as a signed number, and its negative
+  read : toZ w64 n ≡ pos n
+  read = toZ-pos w64 n (omega arith)
+
+  negative-fits : (n : ℕ) → n ≤ 2 ^ 60 → SFits w64 (negℤ (pos n))
+  negative-fits zero h = record { sfits = omega arith }
+  negative-fits (suc n) h = record { sfits = omega arith }
+
+  taken : pos 0 -ℤ toZ w64 n ≡ negℤ (pos n)
+  taken = rw read (+ℤ-idl (negℤ (pos n)))
+
+  taken-fits : SFits w64 (pos 0 -ℤ toZ w64 n)
+  taken-fits = rw taken (negative-fits n h)
+
+  read-taken : toZ w64 (ofZ w64 (pos 0 -ℤ toZ w64 n)) ≡ negℤ (pos n)
+  read-taken = toZ-ofZ taken-fits ∙ taken
+
+cast-snap : tie.Need-cast-snap
+cast-snap c = search needs
+
+sub-t5 : tie.Need-sub-t5
+sub-t5 c = taken-fits (c .before .args .size) (c .before .pre)
+
+sub-t6 : tie.Need-sub-t6
+sub-t6 c = taken-fits (c .before .args .size) (c .before .pre)
+
+returns : tie.Need-returns
+returns c =
+    let n = c .before .args .size in
+    let t = along-negative (c .before .args .displacement) (pos n) (rw (toZ-ofZ (c .before .fits .displacement)) at (c .if1 .taken)) in
+    (read-taken n (c .before .pre) ∙ sym t, read n (c .before .pre) ∙ sym (ap negℤ t ∙ negℤ-negℤ (pos n)))
+
+returns-2 : tie.Need-returns-2
+returns-2 c =
+    let n = c .before .args .size in
+    let t = along-positive (c .before .args .displacement) (pos n) (rw (toZ-ofZ (c .before .fits .displacement)) at (c .if1 .left)) in
+    (read n (c .before .pre) ∙ sym t, read-taken n (c .before .pre) ∙ sym (ap negℤ t))
+
+pub levels-of-spec : {M : Type 1} → statement M
+levels-of-spec = tie.close (tie.spec cast-snap sub-t5 returns sub-t6 returns-2)

@@ -1,0 +1,37 @@
+-- The answers as the paper has them: the number of each refusal, and the values that are given. Every field of every case is read.
+use Prim.Native.Nat.{ℕ}
+use Rattle.planner.specs.Answer as planner
+use Rattle.motion.specs.Result.{Result, refused, given}
+use Rattle.motion.specs.Sampling.{Values}
+use Rattle.motion.specs.declared.Sample.{Sample}
+use Rattle.motion.specs.declared.MotionRefusal.{MotionRefusal}
+use Rattle.motion.specs.declared.MotionRefusal.the-variants.{Unplanned, ShortTable, PastEnd}
+use Rattle.motion.specs.declared.SampleAnswer.{SampleAnswer}
+use Rattle.motion.specs.declared.SampleAnswer.the-variants.{Sampled, Refused as NoSample}
+use Rattle.motion.specs.declared.TableAnswer.{TableAnswer}
+use Rattle.motion.specs.declared.TableAnswer.the-variants.{Filled, Refused as NoTable}
+
+-- Document 01's table, column "No."
+abbrev pub number : MotionRefusal → ℕ
+number (Unplanned x) = planner.number x
+number ShortTable = 8
+number PastEnd = 9
+
+abbrev pub values : Sample → Values
+values x =
+    record {
+      snap = x .snap;
+      jerk = x .jerk;
+      acceleration = x .acceleration;
+      velocity = x .velocity;
+      position = x .position;
+      count = x .count;
+    }
+
+abbrev pub sampleOutcome : SampleAnswer → Result Values
+sampleOutcome (Sampled x) = given (values x)
+sampleOutcome (NoSample x) = refused (number x)
+
+abbrev pub tableOutcome : TableAnswer → Result ℕ
+tableOutcome (Filled rows) = given rows
+tableOutcome (NoTable x) = refused (number x)

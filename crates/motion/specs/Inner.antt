@@ -1,0 +1,6 @@
+-- What the contracts of private functions cite. No rule of the paper stands below here, and no promise of an entry rests on it.
+pub mod Places
+pub mod Steps
+pub mod Planned
+pub mod Runs
+pub mod Halves

@@ -1,0 +1,10 @@
+-- A sample of a profile over widths, seen from inside its outermost interval.
+use mathlib.Core.List.{List, _∷_}
+use mathlib.Core.Path.{_≡_}
+use Prim.Native.Nat.{ℕ}
+use lib.IntN.{ℤ}
+use Rattle.profile.specs.Widths.{snapBy}
+
+-- The inner profile has at k′ with u′ and v′ the snap that the profile of width w around it has at k with u and v.
+pub record SameSnap (w : ℕ) (u v : ℤ) (k : ℕ) (u′ v′ : ℤ) (k′ : ℕ) : Type 0 where
+  pub same : (a : ℕ) (ws : List ℕ) → snapBy a (w ∷ ws) u v k ≡ snapBy a ws u′ v′ k′

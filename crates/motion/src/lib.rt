@@ -1,0 +1,86 @@
+// One sample of a move, and the tables that the drive and the feedback loop play. Every entry takes the move's own numbers and plans
+// inside.
+mod count;
+mod fill;
+mod planned;
+mod refusal;
+mod snap;
+mod state;
+mod sums;
+
+use crate::count::nearest_count;
+use crate::fill::write_positions;
+use crate::planned::samples_in_plan;
+use crate::refusal::unplanned;
+use crate::sums::sample_in_plan;
+use planner::Move;
+use planner::PlanAnswer;
+use planner::Refusal;
+ghost use mathlib.Core.Path.{_≡_};
+ghost use Rattle.motion.specs.Sampling.{Samples};
+ghost use Rattle.motion.specs.Tables.{FillsPositions, FillsReference};
+ghost use Rattle.motion.specs.Answer.{number, sampleOutcome, tableOutcome};
+
+// The values at a sample: snap, jerk, acceleration, velocity and position in sub-count units, and the position to the nearest count.
+pub struct Sample {
+    pub snap: i64,
+    pub jerk: i64,
+    pub acceleration: i64,
+    pub velocity: i64,
+    pub position: i64,
+    pub count: i64,
+}
+
+// Refusals 1 to 7 of the planner, 8 and 9.
+pub enum MotionRefusal {
+    Unplanned(Refusal),
+    ShortTable,
+    PastEnd,
+}
+
+pub enum SampleAnswer {
+    Sampled(Sample),
+    Refused(MotionRefusal),
+}
+
+// How many rows were written.
+pub enum TableAnswer {
+    Filled(u64),
+    Refused(MotionRefusal),
+}
+
+// The values of a move at sample k, from 0 to N.
+pub fn sample_move(m: Move, k: u64) -> SampleAnswer
+    ensures { λ r. ⌜ Samples (m .displacement) (m .velocity) (m .acceleration) (m .jerk) (m .snap) k (sampleOutcome r) ⌝ }
+{
+    let answer = planner::plan_move(m);
+    let PlanAnswer::Planned(plan) = answer else {
+        return SampleAnswer::Refused(unplanned(answer));
+    };
+    if samples_in_plan(plan) < k {
+        return SampleAnswer::Refused(MotionRefusal::PastEnd);
+    }
+    SampleAnswer::Sampled(sample_in_plan(m.displacement, plan, k))
+}
+
+// Fills a table with the positions of a move at samples 0 to N, for the drive to play.
+pub fn fill_positions(m: Move, table: &mut [i64]) -> TableAnswer
+    ensures { λ r. ⌜ FillsPositions (m .displacement) (m .velocity) (m .acceleration) (m .jerk) (m .snap) (now (table .entry)) (tableOutcome r) (now (table .exit)) ⌝ }
+{
+    let answer = planner::plan_move(m);
+    let PlanAnswer::Planned(plan) = answer else {
+        return TableAnswer::Refused(unplanned(answer));
+    };
+    write_positions(table, m.displacement, plan)
+}
+
+// Fills a table with the reference rows of a move at samples 0 to N, for the feedback loop. Today they are its positions.
+pub fn fill_reference(m: Move, table: &mut [i64]) -> TableAnswer
+    ensures { λ r. ⌜ FillsReference (m .displacement) (m .velocity) (m .acceleration) (m .jerk) (m .snap) (now (table .entry)) (tableOutcome r) (now (table .exit)) ⌝ }
+{
+    let answer = planner::plan_move(m);
+    let PlanAnswer::Planned(plan) = answer else {
+        return TableAnswer::Refused(unplanned(answer));
+    };
+    write_positions(table, m.displacement, plan)
+}

@@ -1,0 +1,38 @@
+// A sample, with the four sums there, and the step to the next.
+ghost use mathlib.Core.Path.{_≡_};
+ghost use Rattle.motion.specs.Inner.Steps.{StepFits, stepped, rest};
+
+pub(crate) struct State {
+    pub sample: u64,
+    pub jerk: i64,
+    pub acceleration: i64,
+    pub velocity: i64,
+    pub position: i64,
+}
+
+// Each sum grows by the next higher derivative as it was: the old one, not the new.
+pub(crate) fn step(state: State, snap: i64) -> State
+    requires { ⌜ StepFits state snap ⌝ }
+    ensures { λ r. ⌜ r ≡ stepped state snap ⌝ }
+{
+    State {
+        sample: state.sample + 1,
+        jerk: state.jerk + snap,
+        acceleration: state.acceleration + state.jerk,
+        velocity: state.velocity + state.acceleration,
+        position: state.position + state.velocity,
+    }
+}
+
+// Sample 0: everything is 0.
+pub(crate) fn at_rest() -> State
+    ensures { λ r. ⌜ r ≡ rest ⌝ }
+{
+    State {
+        sample: 0,
+        jerk: 0,
+        acceleration: 0,
+        velocity: 0,
+        position: 0,
+    }
+}

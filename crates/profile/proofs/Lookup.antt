@@ -1,0 +1,62 @@
+-- Where a sample lies in a list of segments: in the first or after it, in the first of two joined lists or after it, or past all.
+-- Assumes nothing.
+use mathlib.Core.Path.{_≡_, refl, sym, ap, _∙_}
+use mathlib.Core.Bool.{Bool, true, false, cond}
+use mathlib.Core.List.{List, [], _∷_, _++_, append-nil}
+use Prim.Native.Nat.{ℕ, _+_, _-_, _≤_, _<_}
+use native.Mathlib.Nat.{sub-zero, sub-add-eq, zero-add}
+use native.Mathlib.Omega.{arith}
+use lib.Dec.{ltb}
+use lib.IntN.{ℤ, pos}
+use borrow.Author.Tests.{lt-ltb, le-ltb, ltb-false}
+use Rattle.profile.specs.Segments.{Sign, Segment, segment, signed, snapIn}
+use Rattle.profile.specs.Widths.{reversed}
+
+-- the samples of all segments
+unfoldable pub samples : List Segment → ℕ
+samples [] = 0
+samples (segment n g ∷ xs) = n + samples xs
+
+pub samples-append : (xs ys : List Segment) → samples (xs ++ ys) ≡ samples xs + samples ys
+unfolding samples
+samples-append [] ys = sym (zero-add (samples ys))
+samples-append (segment n g ∷ xs) ys = omega (arith, samples-append xs ys)
+
+pub samples-reversed : (xs : List Segment) → samples (reversed xs) ≡ samples xs
+unfolding samples reversed
+samples-reversed [] = refl
+samples-reversed (segment n g ∷ xs) = ap (λ (m : ℕ). n + m) (samples-reversed xs)
+
+module _ (n : ℕ) (g : Sign) (xs : List Segment) (D k : ℕ) where
+  by-test : (t : Bool) → ltb k n ≡ t → snapIn (segment n g ∷ xs) D k ≡ cond t (signed g D) (snapIn xs D (k - n))
+  unfolding snapIn
+  by-test t e = ap (λ (u : Bool). cond u (signed g D) (snapIn xs D (k - n))) e
+
+  pub snap-first : k < n → snapIn (segment n g ∷ xs) D k ≡ signed g D
+  snap-first h = by-test true (lt-ltb k n h)
+
+  pub snap-next : n ≤ k → snapIn (segment n g ∷ xs) D k ≡ snapIn xs D (k - n)
+  snap-next h = by-test false (le-ltb k n h)
+
+else-equal : (t : Bool) (x y z : ℤ) → (t ≡ false → y ≡ z) → cond t x y ≡ cond t x z
+else-equal true x y z e = refl
+else-equal false x y z e = e refl
+
+pub snap-in-front : (xs ys : List Segment) (D k : ℕ) → k < samples xs → snapIn (xs ++ ys) D k ≡ snapIn xs D k
+unfolding samples snapIn
+snap-in-front [] ys D k h = absurd (omega arith)
+snap-in-front (segment n g ∷ xs) ys D k h =
+    else-equal (ltb k n) (signed g D) (snapIn (xs ++ ys) D (k - n)) (snapIn xs D (k - n))
+    (λ e. snap-in-front xs ys D (k - n) (omega (arith, ltb-false k n e)))
+
+pub snap-behind : (xs ys : List Segment) (D k : ℕ) → samples xs ≤ k → snapIn (xs ++ ys) D k ≡ snapIn ys D (k - samples xs)
+unfolding samples
+snap-behind [] ys D k h = rw sub-zero
+snap-behind (segment n g ∷ xs) ys D k h =
+    snap-next n g (xs ++ ys) D k (omega arith)
+    ∙ snap-behind xs ys D (k - n) (omega arith)
+    ∙ ap (snapIn ys D) (sym (sub-add-eq k n (samples xs)))
+
+pub snap-ends : (xs : List Segment) (D k : ℕ) → samples xs ≤ k → snapIn xs D k ≡ pos 0
+unfolding snapIn
+snap-ends xs D k h = ap (λ (l : List Segment). snapIn l D k) (sym (append-nil xs)) ∙ snap-behind xs [] D k h

@@ -1,0 +1,45 @@
+-- Laws of the snap in any list of segments: its size, and what a change of all signs does.
+-- Assumes nothing.
+use mathlib.Core.Path.{_≡_, refl, sym, ap₂, _∙_}
+use mathlib.Core.Bool.{Bool, true, false, cond}
+use mathlib.Core.List.{List, [], _∷_}
+use Prim.Native.Nat.{ℕ, zero, suc, _-_, _≤_}
+use native.Mathlib.Nat.{le-refl}
+use native.Mathlib.Omega.{arith}
+use lib.Dec.{ltb}
+use lib.IntN.{ℤ, pos, negℤ, negℤ-negℤ, natAbs}
+use Rattle.profile.specs.Segments.{Sign, positive, none, negative, Segment, segment, signed, snapIn}
+use Rattle.profile.specs.Widths.{opposite, reversed}
+
+signed-size : (g : Sign) (D : ℕ) → natAbs (signed g D) ≤ D
+unfolding signed
+signed-size positive D = le-refl D
+signed-size none D = omega arith
+signed-size negative zero = omega arith
+signed-size negative (suc D) = le-refl (suc D)
+
+either-size : (t : Bool) (x y : ℤ) (D : ℕ) → natAbs x ≤ D → natAbs y ≤ D → natAbs (cond t x y) ≤ D
+either-size true x y D p q = p
+either-size false x y D p q = q
+
+pub snap-size : (xs : List Segment) (D k : ℕ) → natAbs (snapIn xs D k) ≤ D
+unfolding snapIn
+snap-size [] D k = omega arith
+snap-size (segment n g ∷ xs) D k =
+    either-size (ltb k n) (signed g D) (snapIn xs D (k - n)) D (signed-size g D) (snap-size xs D (k - n))
+
+signed-opposite : (g : Sign) (D : ℕ) → signed (opposite g) D ≡ negℤ (signed g D)
+unfolding signed opposite
+signed-opposite positive D = refl
+signed-opposite none D = refl
+signed-opposite negative D = sym (negℤ-negℤ (pos D))
+
+pub either-negated : (t : Bool) (x y : ℤ) → cond t (negℤ x) (negℤ y) ≡ negℤ (cond t x y)
+either-negated true x y = refl
+either-negated false x y = refl
+
+pub snap-reversed : (xs : List Segment) (D k : ℕ) → snapIn (reversed xs) D k ≡ negℤ (snapIn xs D k)
+unfolding snapIn reversed
+snap-reversed [] D k = refl
+snap-reversed (segment n g ∷ xs) D k =
+    ap₂ (cond (ltb k n)) (signed-opposite g D) (snap-reversed xs D (k - n)) ∙ either-negated (ltb k n) (signed g D) (snapIn xs D (k - n))

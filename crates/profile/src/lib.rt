@@ -1,0 +1,1 @@
+// The motion profile as mathematics: definitions in specs/, laws in proofs/, and no code.

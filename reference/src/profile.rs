@@ -1,0 +1,76 @@
+//! The profile of a move: five values and a count at each sample, and the
+//! tables filled from it. Every entry takes the move itself and plans inside.
+
+mod counts;
+mod position_table;
+mod reference_table;
+mod sample;
+mod segments;
+mod state;
+
+pub use counts::nearest_count;
+pub use position_table::position_table;
+pub use reference_table::reference_table;
+pub use sample::{sample, SampleAnswer};
+pub use segments::{Segment, SEGMENT_COUNT};
+pub use state::State;
+
+use crate::planner::{phases, plan, Answer, Move};
+use std::iter;
+
+/// What a table entry says.
+#[derive(Clone, Copy, Debug, PartialEq, Eq)]
+pub enum TableAnswer {
+    /// The number of the refusal, 1 to 8; nothing was written.
+    Refused(u8),
+    /// The number of rows written, N+1: places 0 to N.
+    Written(u64),
+}
+
+/// The segments of a planned move, with the signs of its direction.
+pub struct Profile {
+    pub segments: [Segment; SEGMENT_COUNT],
+    /// The number of the last sample (N in the paper).
+    pub duration: u64,
+}
+
+impl Profile {
+    /// The profile of a move, or the planner's refusal, 1 to 7.
+    pub fn of(motion: &Move) -> Result<Profile, u8> {
+        let (intervals, size) = match plan(motion) {
+            Answer::Refused(number) => return Err(number),
+            Answer::Planned {
+                a, b, c, e, snap, ..
+            } => ([a, b, c, e], snap),
+        };
+        // D is at most S, which is at most 2^50. For a negative X every value
+        // changes sign; all of them are sums of snaps.
+        let snap = size as i64 * motion.displacement.signum();
+        Ok(Profile {
+            segments: segments::segments(phases(intervals), snap),
+            duration: intervals.iter().sum(),
+        })
+    }
+
+    /// The profile of a move whose samples 0 to N fit this many places, or the
+    /// refusal, 1 to 8.
+    fn fitting(motion: &Move, places: usize) -> Result<Profile, u8> {
+        let profile = Profile::of(motion)?;
+        if (places as u64) <= profile.duration {
+            return Err(8);
+        }
+        Ok(profile)
+    }
+
+    /// The snap and the state at each sample from 0 to N.
+    pub fn samples(&self) -> impl Iterator<Item = (i64, State)> + '_ {
+        let in_segment = |segment: &Segment| iter::repeat_n(segment.snap, segment.samples);
+        // The segments end at sample N-1; at N the snap is 0.
+        let snaps = self.segments.iter().flat_map(in_segment).chain([0]);
+        snaps.scan(State::REST, |state, snap| {
+            let here = *state;
+            *state = here.next(snap);
+            Some((snap, here))
+        })
+    }
+}

@@ -1,0 +1,18 @@
+//! The table of reference rows for the feedback loop.
+
+use super::{Profile, TableAnswer};
+use crate::planner::Move;
+
+/// Writes the reference rows 0 to N and keeps every later place, or writes
+/// nothing and refuses.
+pub fn reference_table(motion: &Move, table: &mut [i64]) -> TableAnswer {
+    let profile = match Profile::fitting(motion, table.len()) {
+        Ok(profile) => profile,
+        Err(number) => return TableAnswer::Refused(number),
+    };
+    // Undelayed: row k holds the position at sample k itself.
+    for (row, (_, state)) in table.iter_mut().zip(profile.samples()) {
+        *row = state.position;
+    }
+    TableAnswer::Written(profile.duration + 1)
+}

@@ -1,0 +1,82 @@
+//! Short and long moves of every shape.
+
+use super::{Asked, Condition};
+use crate::planner::{Answer, Move, LARGEST_DISPLACEMENT};
+use crate::profile::Profile;
+use crate::vectors::motion::ask::borders;
+use crate::vectors::motion::shapes::{shape_of, shapes, Shape};
+use crate::vectors::motion::short::LONGEST;
+use std::ops::RangeInclusive;
+
+pub fn conditions(asked: &Asked) -> Vec<Condition> {
+    let mut list = Vec::new();
+    for shape in shapes() {
+        list.extend([1, -1].map(|direction| short(asked, shape, direction)));
+        list.push(long(asked, shape, 4_096..=4_096));
+        list.push(long(asked, shape, 4_080..=4_095));
+    }
+    list.extend([1, -1].map(|direction| farthest(asked, direction)));
+    list
+}
+
+fn has_shape(answer: &Answer, shape: Shape) -> bool {
+    answer
+        .phases()
+        .is_some_and(|phases| shape_of(phases) == shape)
+}
+
+/// The names of the durations that are not 0.
+fn name(shape: Shape) -> String {
+    let letters = shape.into_iter().zip([" q", " r", " s"]);
+    let present = letters.filter(|(present, _)| *present);
+    present.fold("p".into(), |name, (_, letter)| name + letter)
+}
+
+/// A short move with all its samples.
+fn short(asked: &Asked, shape: Shape, direction: i64) -> Condition {
+    let met = asked.plans.iter().any(|(motion, answer)| {
+        let short = answer.duration().is_some_and(|n| n <= LONGEST);
+        let wanted = has_shape(answer, shape) && motion.displacement.signum() == direction;
+        short && wanted && asked.is_whole(motion)
+    });
+    let name = name(shape);
+    (
+        format!("all samples of {name} in direction {direction}"),
+        met,
+    )
+}
+
+/// A long move at all its borders and at the last number of all.
+fn long(asked: &Asked, shape: Shape, durations: RangeInclusive<u64>) -> Condition {
+    let met = asked.plans.iter().any(|(motion, answer)| {
+        let long = answer.duration().is_some_and(|n| durations.contains(&n));
+        long && has_shape(answer, shape) && at_borders(asked, motion)
+    });
+    let (name, from, to) = (name(shape), durations.start(), durations.end());
+    (format!("borders of {name} with N from {from} to {to}"), met)
+}
+
+/// Each border, one before it and one after it: with 0 and N as borders also
+/// 0, N-1, N and N+1.
+fn at_borders(asked: &Asked, motion: &Move) -> bool {
+    let samples = &asked.samples[motion];
+    let near = |border: u64| border.saturating_sub(1)..=border + 1;
+    let borders = Profile::of(motion).map(|profile| borders(&profile));
+    let all = |list: Vec<u64>| {
+        list.into_iter()
+            .flat_map(near)
+            .all(|k| samples.contains(&k))
+    };
+    borders.is_ok_and(all) && samples.contains(&u64::MAX)
+}
+
+/// The largest displacement, with samples in it.
+fn farthest(asked: &Asked, direction: i64) -> Condition {
+    let displacement = direction * LARGEST_DISPLACEMENT as i64;
+    let met = asked.any_request(|request, answer| {
+        let n = answer.duration();
+        let inside = n.is_some_and(|n| request.samples().any(|k| k <= n));
+        inside && request.motion.displacement == displacement
+    });
+    (format!("samples with X = {displacement}"), met)
+}

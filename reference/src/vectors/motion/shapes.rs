@@ -1,0 +1,86 @@
+//! Moves made for a shape: which of the durations q, r and s are not 0.
+
+use crate::planner::{plan, Move, COUNT_GRAINS, LARGEST_BOUND, LARGEST_DISPLACEMENT};
+use crate::vectors::planner::from_intervals::move_from;
+use crate::vectors::splitmix::SplitMix64;
+
+/// Draws made at most for one thing that is looked for.
+const DRAWS: usize = 20_000;
+
+/// Whether q, r and s are there; p always is.
+pub type Shape = [bool; 3];
+
+/// All eight shapes.
+pub fn shapes() -> [Shape; 8] {
+    std::array::from_fn(|k| [k & 4 != 0, k & 2 != 0, k & 1 != 0])
+}
+
+/// The shape of the durations p, q, r and s.
+pub fn shape_of([_, q, r, s]: [u64; 4]) -> Shape {
+    [q > 0, r > 0, s > 0]
+}
+
+/// What the draws give first; nothing if they give nothing.
+pub fn drawn<T>(random: &mut SplitMix64, draw: impl Fn(&mut SplitMix64) -> Option<T>) -> Option<T> {
+    (0..DRAWS).find_map(|_| draw(random))
+}
+
+/// Durations p, q, r and s of the shape that last exactly `duration` samples,
+/// if the draw comes out so.
+pub fn phases(shape: Shape, duration: u64, random: &mut SplitMix64) -> Option<[u64; 4]> {
+    let wanted = [true, shape[0], shape[1], shape[2]];
+    let finest = wanted.iter().rposition(|wanted| *wanted)?;
+    let mut list = [0; 4];
+    let mut rest = duration;
+    for (k, unit) in [8, 4, 2, 1].into_iter().enumerate() {
+        if !wanted[k] {
+            continue;
+        }
+        // The finest duration takes all that is left.
+        let most = rest / unit;
+        list[k] = match k == finest {
+            true => most,
+            false => random.log_uniform(most).max(1),
+        };
+        rest = rest.checked_sub(list[k] * unit)?;
+    }
+    (rest == 0 && list[0] > 0 && shape_of(list) == shape).then_some(list)
+}
+
+/// The intervals a, b, c and e of the durations p, q, r and s.
+pub fn intervals([p, q, r, s]: [u64; 4]) -> [u64; 4] {
+    let (a, b) = (p, p + q);
+    let c = a + b + r;
+    [a, b, c, a + b + c + s]
+}
+
+/// A size in counts for which a velocity in range leads to these durations.
+pub fn size_for(phases: [u64; 4], random: &mut SplitMix64) -> i64 {
+    let [_, _, _, e] = intervals(phases);
+    let largest = LARGEST_DISPLACEMENT.min(LARGEST_BOUND / COUNT_GRAINS as u64 * e);
+    random.log_uniform(largest).max(1) as i64
+}
+
+/// A move with these durations, if the draw comes out so.
+pub fn shaped(displacement: i64, phases: [u64; 4], random: &mut SplitMix64) -> Option<Move> {
+    let motion = move_from(displacement, intervals(phases), random);
+    (plan(&motion).phases() == Some(phases)).then_some(motion)
+}
+
+/// The positive move with these durations and this snap whose shortfall is 0,
+/// if there is one: each bound is what the snap just reaches.
+pub fn exact(phases: [u64; 4], snap: u64) -> Option<Move> {
+    let [a, b, c, e] = intervals(phases).map(u128::from);
+    let velocity = u128::from(snap) * a * b * c;
+    let grains = velocity * e;
+    let counts = grains / COUNT_GRAINS;
+    let whole = grains % COUNT_GRAINS == 0;
+    let in_range = counts <= LARGEST_DISPLACEMENT.into() && velocity <= LARGEST_BOUND.into();
+    (whole && in_range).then(|| Move {
+        displacement: counts as i64,
+        velocity: velocity as u64,
+        acceleration: snap * (a * b) as u64,
+        jerk: snap * a as u64,
+        snap,
+    })
+}

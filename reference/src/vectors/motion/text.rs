@@ -1,0 +1,91 @@
+//! The two files as text.
+
+use super::entries::{Entries, Reference};
+use super::request::{Kind, Request};
+use crate::planner::Move;
+use crate::profile::{SampleAnswer, TableAnswer};
+use crate::vectors::Files;
+
+/// Places of a table printed at most.
+const MOST_PRINTED: usize = 40;
+
+pub fn files(requests: &[Request]) -> Files {
+    let lines = |request: &Request| output(&Reference, request);
+    Files {
+        stdin: requests.iter().map(input_line).collect(),
+        stdout: requests.iter().map(lines).collect(),
+    }
+}
+
+/// A letter for the kind, then X V A J S n m, each 20 characters wide: every
+/// line has 149 bytes, so a reader finds any request without reading the ones
+/// before it.
+fn input_line(request: &Request) -> String {
+    let letter = match request.kind {
+        Kind::Samples => 's',
+        Kind::Positions => 'p',
+        Kind::References => 'r',
+    };
+    let Move {
+        displacement,
+        velocity,
+        acceleration,
+        jerk,
+        snap,
+    } = request.motion;
+    let numbers = [velocity, acceleration, jerk, snap, request.n, request.m];
+    let columns: String = numbers.iter().map(|x| format!(" {x:>20}")).collect();
+    format!("{letter} {displacement:>20}{columns}\n")
+}
+
+/// What the entries say to a request: a line for each sample, or one for a table.
+pub fn output(entries: &impl Entries, request: &Request) -> String {
+    let motion = &request.motion;
+    let mut table: Vec<i64> = (0..request.places().unwrap_or(0)).map(unwritten).collect();
+    let answer = match request.kind {
+        Kind::Samples => {
+            let answers = request.samples().map(|k| entries.sample(motion, k));
+            return answers.map(sample_line).collect();
+        }
+        Kind::Positions => entries.position_table(motion, &mut table),
+        Kind::References => entries.reference_table(motion, &mut table),
+    };
+    table_line(answer, &table, request.m)
+}
+
+/// What a place holds before the call: no two are alike, and none is a position.
+fn unwritten(place: u64) -> i64 {
+    (1 << 62) + place as i64
+}
+
+fn sample_line(answer: SampleAnswer) -> String {
+    match answer {
+        SampleAnswer::Refused(number) => format!("refused {number}\n"),
+        SampleAnswer::Sampled {
+            snap,
+            jerk,
+            acceleration,
+            velocity,
+            position,
+            count,
+        } => format!("sample {snap} {jerk} {acceleration} {velocity} {position} {count}\n"),
+    }
+}
+
+/// The answer, the sum over the whole table, and the places from `first` on.
+fn table_line(answer: TableAnswer, table: &[i64], first: u64) -> String {
+    let answer = match answer {
+        TableAnswer::Refused(number) => format!("refused {number}"),
+        TableAnswer::Written(rows) => format!("rows {rows}"),
+    };
+    let skipped = usize::try_from(first).unwrap_or(usize::MAX);
+    let printed = table.iter().skip(skipped).take(MOST_PRINTED);
+    let places: String = printed.map(|place| format!(" {place}")).collect();
+    format!("{answer} sum {}{places}\n", sum(table))
+}
+
+/// A number that any changed or exchanged place changes.
+fn sum(table: &[i64]) -> u64 {
+    let add = |sum: u64, place: &i64| sum.wrapping_mul(33).wrapping_add(*place as u64);
+    table.iter().fold(0, add)
+}
