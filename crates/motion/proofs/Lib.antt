@@ -1,5 +1,5 @@
 pub mod DirectionLaws
-pub mod PlaceLaws
+pub mod InnerSampleLaws
 pub mod StepLaws
 pub mod RunLaws
 pub mod HalvesLaws

@@ -9,7 +9,7 @@ use lib.IntN.{ℤ, pos}
 use lib.ListN.{length, replicate, length-append, length-replicate}
 use Rattle.profile.specs.Widths.{span, Spread, snapBy}
 use Rattle.motion.specs.Inner.Halves.{snapList}
-use Rattle.motion.proofs.PlaceLaws.{before, past, inside, outside}
+use Rattle.motion.proofs.InnerSampleLaws.{before, past, inside, outside}
 
 -- the list holds what f gives from k on
 unfoldable pub Listed : List ℤ → (ℕ → ℤ) → ℕ → Type 0

@@ -9,7 +9,7 @@ const HALF_COUNT: i64 = 549_755_813_888;
 const HALF_COUNT_BELOW: i64 = -549_755_813_888;
 
 // The nearest count, halves away from zero. The remainder has the sign of the position, so neither step can leave the range.
-pub fn nearest_count(position: i64) -> i64
+pub(crate) fn nearest_count(position: i64) -> i64
     ensures { λ r. ⌜ IsCount position r ⌝ }
 {
     let whole = position / UNITS_PER_COUNT;

@@ -1,18 +1,19 @@
 // One sample of a move, and the tables that the drive and the feedback loop play. Every entry takes the move's own numbers and plans
 // inside.
 mod count;
-mod fill;
+mod intervals;
 mod planned;
 mod refusal;
+mod segment;
 mod snap;
 mod state;
 mod sums;
+mod table;
 
-use crate::count::nearest_count;
-use crate::fill::write_positions;
 use crate::planned::samples_in_plan;
 use crate::refusal::unplanned;
 use crate::sums::sample_in_plan;
+use crate::table::write_positions;
 use planner::Move;
 use planner::PlanAnswer;
 use planner::Refusal;
@@ -83,4 +84,15 @@ pub fn fill_reference(m: Move, table: &mut [i64]) -> TableAnswer
         return TableAnswer::Refused(unplanned(answer));
     };
     write_positions(table, m.displacement, plan)
+}
+
+// The paper's number of a refusal.
+pub fn refusal_number(refusal: MotionRefusal) -> u64
+    ensures { λ r. ⌜ r ≡ number refusal ⌝ }
+{
+    match refusal {
+        MotionRefusal::Unplanned(unplanned) => planner::refusal_number(unplanned),
+        MotionRefusal::ShortTable => 8,
+        MotionRefusal::PastEnd => 9,
+    }
 }

@@ -14,6 +14,7 @@ pub(crate) fn unplanned(answer: PlanAnswer) -> MotionRefusal
 {
     match answer {
         PlanAnswer::Refused(refusal) => MotionRefusal::Unplanned(refusal),
+        // Not reached: the `let else` of the callers leaves refusals only.
         PlanAnswer::Planned(plan) => MotionRefusal::PastEnd,
     }
 }

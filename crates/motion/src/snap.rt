@@ -6,7 +6,7 @@ ghost use Prim.Native.Nat.{_≤_, _^_};
 ghost use lib.IntN.{pos, negℤ};
 ghost use Rattle.profile.specs.Widths.{snapBy};
 ghost use Rattle.motion.specs.Direction.{along};
-ghost use Rattle.motion.specs.Inner.Places.{SameSnap};
+ghost use Rattle.motion.specs.Inner.InnerSamples.{SameSnap};
 
 // The snap in the segments with + and in those with −.
 pub(crate) struct Levels {
@@ -42,23 +42,23 @@ pub(crate) fn exchanged(levels: Levels) -> Levels
 }
 
 // A sample inside an interval, counted from the interval's start, and the levels there.
-struct Place {
+struct IntervalSample {
     pub up: i64,
     pub down: i64,
     pub sample: u64,
 }
 
-// The place inside the next interval: past its width the inner profile starts anew with the levels exchanged.
-fn inward(place: Place, width: u64) -> Place
-    ensures { λ r. ⌜ SameSnap width (place .up) (place .down) (place .sample) (r .up) (r .down) (r .sample) ⌝ }
+// The same sample inside the next interval: past its width the inner profile starts anew with the levels exchanged.
+fn inner_sample(outer: IntervalSample, width: u64) -> IntervalSample
+    ensures { λ r. ⌜ SameSnap width (outer .up) (outer .down) (outer .sample) (r .up) (r .down) (r .sample) ⌝ }
 {
-    if place.sample < width {
-        return place;
+    if outer.sample < width {
+        return outer;
     }
-    Place {
-        up: place.down,
-        down: place.up,
-        sample: place.sample - width,
+    IntervalSample {
+        up: outer.down,
+        down: outer.up,
+        sample: outer.sample - width,
     }
 }
 
@@ -66,16 +66,16 @@ fn inward(place: Place, width: u64) -> Place
 pub(crate) fn snap_at(plan: Plan, levels: Levels, k: u64) -> i64
     ensures { λ r. ⌜ r ≡ snapBy (plan .a) (plan .e ∷ plan .c ∷ plan .b ∷ []) (levels .up) (levels .down) k ⌝ }
 {
-    let whole = Place {
+    let whole = IntervalSample {
         up: levels.up,
         down: levels.down,
         sample: k,
     };
-    let half = inward(whole, plan.e);
-    let quarter = inward(half, plan.c);
-    let eighth = inward(quarter, plan.b);
-    if eighth.sample < plan.a {
-        return eighth.up;
+    let in_e = inner_sample(whole, plan.e);
+    let in_c = inner_sample(in_e, plan.c);
+    let in_b = inner_sample(in_c, plan.b);
+    if in_b.sample < plan.a {
+        return in_b.up;
     }
     0
 }

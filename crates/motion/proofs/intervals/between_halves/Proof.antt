@@ -1,11 +1,11 @@
--- `pause` meets its contract. Assumes nothing.
+-- `between_halves` meets its contract. Assumes nothing.
 use native.Mathlib.Omega.{arith}
 use Rattle.motion.proofs.HalvesLaws.{pause-q, pause-r, pause-s}
 use borrow.Author.Needs.{needs}
-use Rattle.motion.proofs.fill.pause.Statement.{statement}
-use Rattle.motion.proofs.fill.pause.Tie as tie
-use Rattle.motion.proofs.fill.pause.Reads as reads
-use Rattle.motion.proofs.fill.pause.Lts as lts
+use Rattle.motion.proofs.intervals.between_halves.Statement.{statement}
+use Rattle.motion.proofs.intervals.between_halves.Tie as tie
+use Rattle.motion.proofs.intervals.between_halves.Reads as reads
+use Rattle.motion.proofs.intervals.between_halves.Lts as lts
 
 sub-result : tie.Need-sub-result
 sub-result c = search needs
@@ -34,8 +34,8 @@ sub-result-6 c = search needs
 returns-3 : tie.Need-returns-3
 returns-3 c = pause-s _ _ _ _ _ (omega arith)
 
-pub pause-spec : {M : Type 1} → statement M
-pause-spec =
+pub between-halves-spec : {M : Type 1} → statement M
+between-halves-spec =
     tie.close
     (tie.spec
     sub-result

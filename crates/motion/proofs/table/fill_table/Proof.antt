@@ -8,8 +8,8 @@ use lib.IntN.{ℤ, pos, negℤ}
 use Rattle.motion.specs.Direction.{along}
 use Rattle.motion.proofs.PlayLaws.{snap-small}
 use Rattle.motion.proofs.TableLaws.{can-play, can-end, all-in}
-use Rattle.motion.proofs.fill.fill_table.Statement.{statement}
-use Rattle.motion.proofs.fill.fill_table.Tie as tie
+use Rattle.motion.proofs.table.fill_table.Statement.{statement}
+use Rattle.motion.proofs.table.fill_table.Tie as tie
 
 levels-of-requires : tie.Need-levels-of-requires
 levels-of-requires c κs = snap-small (c .args .displacement) _ _ _ _ _ (c .pre .0)
@@ -27,16 +27,16 @@ down c = c .levels-of .ensures .1 ∙ ap negℤ (forward c)
 at-rest-requires : tie.Need-at-rest-requires
 at-rest-requires c κs = search needs
 
-play-requires : tie.Need-play-requires
-play-requires c κs =
+store-intervals-requires : tie.Need-store-intervals-requires
+store-intervals-requires c κs =
     let d = c .before .before in
     can-play (d .before .args .displacement) _ _ _ _ _ (d .before .pre .0) (up d) (down d) (c .at-rest .ensures) (d .before .pre .1)
 
-segment-requires : tie.Need-segment-requires
-segment-requires c κs =
+store-segment-requires : tie.Need-store-segment-requires
+store-segment-requires c κs =
     let t = c .before .before in
     let d = t .before .before .before in
-    can-end (d .before .args .displacement) _ _ _ _ _ (d .before .pre .0) (up d) (down d) (t .before .at-rest .ensures) (d .before .pre .1) (t .play .ensures)
+    can-end (d .before .args .displacement) _ _ _ _ _ (d .before .pre .0) (up d) (down d) (t .before .at-rest .ensures) (d .before .pre .1) (t .store-intervals .ensures)
 
 same-length : tie.Need-same-length
 same-length c = search needs
@@ -45,7 +45,7 @@ returns : tie.Need-returns
 returns c =
     let t = c .before .before .before .before in
     let d = t .before .before .before in
-    all-in (d .before .args .displacement) _ _ _ _ _ (d .before .pre .0) (up d) (down d) (t .before .at-rest .ensures) (d .before .pre .1) (t .play .ensures) (c .before .segment .ensures)
+    all-in (d .before .args .displacement) _ _ _ _ _ (d .before .pre .0) (up d) (down d) (t .before .at-rest .ensures) (d .before .pre .1) (t .store-intervals .ensures) (c .before .store-segment .ensures)
 
 pub fill-table-spec : {M : Type 1} → statement M
 fill-table-spec =
@@ -53,7 +53,7 @@ fill-table-spec =
     (tie.spec
     levels-of-requires
     at-rest-requires
-    play-requires
-    segment-requires
+    store-intervals-requires
+    store-segment-requires
     same-length
     returns)

@@ -1,4 +1,4 @@
--- `segment` meets its contract. The loop's invariant: the run that is left comes to the same as the run asked for. Assumes nothing.
+-- `store_segment` meets its contract. The loop's invariant: the run that is left comes to the same as the run asked for. Assumes nothing.
 use mathlib.Core.List.{_∷_}
 use mathlib.Core.Path.{_≡_, subst}
 use Prim.Native.Nat.{ℕ, _-_, _<_}
@@ -10,8 +10,8 @@ use lib.IntN.{ℤ}
 use lib.ListN.{replicate, length}
 use Rattle.motion.specs.Inner.Runs.{Ran}
 use Rattle.motion.proofs.RunLaws.{Left, all-left, one-done, one-of, first-fits, none-of, ran-length}
-use Rattle.motion.proofs.fill.segment.Statement.{statement}
-use Rattle.motion.proofs.fill.segment.Tie as tie
+use Rattle.motion.proofs.segment.store_segment.Statement.{statement}
+use Rattle.motion.proofs.segment.store_segment.Tie as tie
 
 abbrev Inv-loop : tie.InvT-loop
 Inv-loop table₀ count snap current₀ left₀ table current left =
@@ -67,8 +67,8 @@ same-length c = ran-length (ran c)
 returns : tie.Need-returns Inv-loop μ-loop
 returns c = ran c
 
-pub segment-spec : {M : Type 1} → statement M
-segment-spec =
+pub store-segment-spec : {M : Type 1} → statement M
+store-segment-spec =
     tie.close
     (tie.spec
     Inv-loop

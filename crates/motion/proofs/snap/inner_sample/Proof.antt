@@ -1,0 +1,24 @@
+-- `inner_sample` meets its contract. Assumes nothing.
+use mathlib.Core.Path.{_≡_}
+use mir.Syntax.{w64}
+use mir.Val.{toZ, ofZ}
+use mir.Facts.{toZ-ofZ}
+use Rattle.motion.proofs.InnerSampleLaws.{before, past}
+use Rattle.motion.proofs.snap.inner_sample.Statement.{statement}
+use Rattle.motion.proofs.snap.inner_sample.Tie as tie
+
+-- the levels as they were passed
+up : (c : tie.After-struct-told) → toZ w64 (ofZ w64 (c .before .before .before .before .args .outer .up)) ≡ c .before .before .before .before .args .outer .up
+up c = toZ-ofZ {w = w64} {z = c .before .before .before .before .args .outer .up} (record { sfits = c .struct-told .given .0 .1 })
+
+down : (c : tie.After-struct-told) → toZ w64 (ofZ w64 (c .before .before .before .before .args .outer .down)) ≡ c .before .before .before .before .args .outer .down
+down c = toZ-ofZ {w = w64} {z = c .before .before .before .before .args .outer .down} (record { sfits = c .struct-told .given .1 .0 .1 })
+
+returns : tie.Need-returns
+returns c = before _ _ _ _ (c .if1 .taken)
+
+returns-2 : tie.Need-returns-2
+returns-2 c = rw (up c, down c) (past _ _ _ _ (c .before .before .if1 .left))
+
+pub inner-sample-spec : {M : Type 1} → statement M
+inner-sample-spec = tie.close (tie.spec returns returns-2)

@@ -1,0 +1,37 @@
+// The table of a plan's positions.
+use crate::MotionRefusal;
+use crate::TableAnswer;
+use crate::intervals::store_intervals;
+use crate::planned::samples_in_plan;
+use crate::segment::store_segment;
+use crate::snap::levels_of;
+use crate::state::at_rest;
+use planner::Plan;
+ghost use Prim.Native.Nat.{_+_, _≤_};
+ghost use Rattle.planner.specs.Durations.{N};
+ghost use Rattle.motion.specs.Answer.{tableOutcome};
+ghost use Rattle.motion.specs.Inner.Planned.{Playable, PositionsIn, WritesPositions};
+
+// Writes the positions at samples 0 to N. The last row is that of a sample with no snap.
+fn fill_table(table: &mut [i64], displacement: i64, plan: Plan)
+    requires { ⌜ Playable (plan .a) (plan .b) (plan .c) (plan .e) (plan .snap) ⌝ }
+    requires { do ⌜ N (plan .a) (plan .b) (plan .c) (plan .e) + 1 ≤ (← ⟦table.len()⟧) ⌝ }
+    ensures { λ r. ⌜ PositionsIn displacement (plan .a) (plan .b) (plan .c) (plan .e) (plan .snap) (now (table .entry)) (now (table .exit)) ⌝ }
+{
+    let levels = levels_of(displacement, plan.snap);
+    let end = store_intervals(table, plan, 3, levels, at_rest());
+    let last = store_segment(table, 1, 0, end);
+}
+
+// The rows of a plan where the table has room for them, else refusal 8.
+pub(crate) fn write_positions(table: &mut [i64], displacement: i64, plan: Plan) -> TableAnswer
+    requires { ⌜ Playable (plan .a) (plan .b) (plan .c) (plan .e) (plan .snap) ⌝ }
+    ensures { λ r. ⌜ WritesPositions displacement (plan .a) (plan .b) (plan .c) (plan .e) (plan .snap) (now (table .entry)) (tableOutcome r) (now (table .exit)) ⌝ }
+{
+    let rows = samples_in_plan(plan) + 1;
+    if (table.len() as u64) < rows {
+        return TableAnswer::Refused(MotionRefusal::ShortTable);
+    }
+    fill_table(table, displacement, plan);
+    TableAnswer::Filled(rows)
+}
