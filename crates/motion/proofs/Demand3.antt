@@ -1,19 +1,18 @@
 -- Demand 3: the theorem `demand-3` proves the claim of specs/Demand3.antt. It rests on the rules (planner), on the laws of the profile
 -- (profile) and on the promises of the entries alone. Assumes nothing.
-use mathlib.Core.List.{List, [], _∷_, _++_}
-use mathlib.Core.Path.{_≡_, refl, sym, ap, subst, _∙_}
-use Prim.Native.Nat.{ℕ, zero, suc, _+_, _*_, _≤_, _<_, zero-le}
-use native.Mathlib.Nat.{le-trans, le-refl}
+use mathlib.Core.List.{List}
+use mathlib.Core.Path.{_≡_, sym, ap, _∙_}
+use Prim.Native.Nat.{ℕ, zero, suc, _+_, _≤_, _<_, zero-le}
+use native.Mathlib.Nat.{le-refl}
 use native.Mathlib.Omega.{arith}
 use borrow.Author.Tests.{le-ltb}
 use lib.Dec.{ltb, le→leb, lt→ltb}
-use lib.IntN.{ℤ, pos, natAbs, _+ℤ_, _-ℤ_, _*ℤ_}
-use lib.ListN.{length, getD, drop, List·getD-append}
+use lib.IntN.{ℤ, pos}
+use lib.ListN.{length, getD, List·getD-append}
 use lib.Signed.{_≤ℤ_, _<ℤ_}
-use Rattle.planner.specs.Quantities.{distance, unitsPerCount}
+use Rattle.planner.specs.Quantities.{distance}
 use Rattle.planner.specs.Intervals as rule
 use Rattle.planner.specs.Durations as durations
-use Rattle.planner.specs.Outcome.{planned, Plans}
 use Rattle.planner.specs.Accepted.{Accepted}
 use Rattle.planner.proofs.Acceptance.{accepted-outcome}
 use Rattle.planner.proofs.PlannedFacts.{planned-facts}
@@ -21,7 +20,7 @@ use Rattle.motion.specs.Values as value
 use Rattle.motion.specs.Result.{Result, refused, given}
 use Rattle.motion.specs.Sampling.{Values, valuesWith, sampleWith, Samples}
 use Rattle.motion.specs.Tables.{rowsFrom, tableOf, tableResult, FillsPositions}
-use Rattle.motion.specs.Demand3.{Demand3, Claim}
+use Rattle.motion.specs.Demand3.{Claim}
 use Rattle.motion.proofs.CountLaws.{one-count}
 use Rattle.motion.proofs.EntryLaws.{Entered, passes}
 use Rattle.motion.proofs.FillLaws.{length-rows}

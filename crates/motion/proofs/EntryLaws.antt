@@ -2,12 +2,12 @@
 use mathlib.Core.Bool.{Bool, true, false}
 use mathlib.Core.List.{List, [], _∷_}
 use mathlib.Core.Path.{_≡_, refl, sym, ap, subst, _∙_}
-use Prim.Native.Nat.{ℕ, _+_, _*_, _≤_, _^_}
+use Prim.Native.Nat.{ℕ, _≤_, _^_}
 use native.Mathlib.Nat.{le-trans, mul-le-mul-left}
 use native.Mathlib.Omega.{arith}
-use lib.IntN.{ℤ, natAbs}
+use lib.IntN.{ℤ}
 use Rattle.planner.specs.Quantities.{distance, unitsPerCount}
-use Rattle.planner.specs.Outcome.{Outcome, planned, Check, check, outcomeOf, Plans, mostCounts}
+use Rattle.planner.specs.Outcome.{Outcome, planned, Check, check, outcomeOf, Plans}
 use Rattle.planner.specs.Outcome as plan
 use Rattle.planner.specs.Intervals as rule
 use Rattle.planner.specs.Durations as durations
@@ -21,7 +21,7 @@ use Rattle.planner.specs.declared.PlanAnswer.the-variants.{Planned, Refused}
 use Rattle.planner.proofs.PlannedFacts.{answer-facts}
 use Rattle.motion.specs.Direction as direction
 use Rattle.motion.specs.Values as value
-use Rattle.motion.specs.Result.{Result, refused, given, firstOf, resultOf}
+use Rattle.motion.specs.Result.{refused, given, firstOf, resultOf}
 use Rattle.motion.specs.Inner.Planned.{Playable}
 
 -- an answer that is a refusal holds no plan

@@ -6,15 +6,15 @@ use borrow.Author.Tests.{lt-ltb, le-ltb}
 use lib.Dec.{ltb}
 use lib.IntN.{ℤ}
 use lib.ListN.{length, drop}
-use Rattle.planner.specs.Outcome.{Outcome, planned, check, outcomeOf, Plans}
+use Rattle.planner.specs.Outcome.{Outcome, check, Plans}
 use Rattle.planner.specs.Outcome as plan
 use Rattle.planner.specs.Durations.{N}
 use Rattle.motion.specs.Direction as direction
 use Rattle.motion.specs.Values as value
-use Rattle.motion.specs.Result.{Result, refused, given, firstOf, resultOf}
-use Rattle.motion.specs.Tables.{rowsFrom, tableOf, tableResult, Fills, FillsPositions, referenceRow, FillsReference}
+use Rattle.motion.specs.Result.{Result, refused, given, firstOf}
+use Rattle.motion.specs.Tables.{rowsFrom, tableOf, tableResult, Fills}
 use Rattle.motion.specs.Inner.Planned.{PositionsIn, WritesPositions}
-use Rattle.motion.proofs.EntryLaws.{Entered, refused-first, own-checks, samples-are, position-is}
+use Rattle.motion.proofs.EntryLaws.{Entered, refused-first, own-checks, samples-are}
 
 pub length-rows : {E : Type 0} (row : ℕ → E) (k n : ℕ) → length (rowsFrom row k n) ≡ n
 unfolding rowsFrom
@@ -68,12 +68,3 @@ fills {X} {V₀} {A₀} {J₀} {S₀} {row = row} {old = old} h rows w =
           w .table-is
           ∙ ap₂ (λ (r : Result ℕ) (rows : List ℤ). tableOf r rows old) result (ap₂ (λ (f : ℕ → ℤ) (n : ℕ). rowsFrom f 0 n) (fun-ext rows) count);
     }
-
-module _ {X : ℤ} {V₀ A₀ J₀ S₀ a b c e D s : ℕ} {old new : List ℤ} {o : Result ℕ} (h : Entered X V₀ A₀ J₀ S₀ a b c e D s) where
-  pub fills-positions : WritesPositions X a b c e D old o new → FillsPositions X V₀ A₀ J₀ S₀ old o new
-  unfolding FillsPositions
-  fills-positions w = fills h (position-is h) w
-
-  pub fills-reference : WritesPositions X a b c e D old o new → FillsReference X V₀ A₀ J₀ S₀ old o new
-  unfolding FillsReference referenceRow
-  fills-reference w = fills h (position-is h) w

@@ -12,6 +12,8 @@ pub mod SamplingLaws
 pub mod FillLaws
 pub mod DirectedLaws
 pub mod Demand3
+pub mod RuleAnswers
+pub mod AnswerLaws
 pub mod IntegerLaws
 pub mod CountLaws
 pub mod RoundingLaws

@@ -1,31 +1,29 @@
 -- The sums that the code makes of a plan's snap are the values of the profile in the move's direction, and none leaves its range.
 -- Assumes nothing.
-use mathlib.Core.Bool.{Bool, true, false, cond}
-use mathlib.Core.List.{List, [], _∷_}
-use mathlib.Core.Path.{_≡_, refl, sym, ap, ap₂, subst, _∙_, fun-ext}
-use Prim.Native.Nat.{ℕ, zero, suc, _+_, _-_, _*_, _≤_, _^_}
-use native.Mathlib.Nat.{le-trans, mul-le-mul-left, mul-le-mul-right, mul-le-mul, le-of-eq, mul-one}
+use mathlib.Core.List.{[], _∷_}
+use mathlib.Core.Path.{_≡_, refl, sym, ap, subst, _∙_, fun-ext}
+use Prim.Native.Nat.{ℕ, suc, _-_, _*_, _≤_, _^_}
+use native.Mathlib.Nat.{le-trans, mul-le-mul-left, le-of-eq, mul-one}
 use native.Mathlib.Omega.{arith}
-use lib.Dec.{ltb}
-use lib.IntN.{ℤ, pos, negsuc, negℤ, natAbs, negℤ-negℤ}
+use lib.IntN.{ℤ, pos, negsuc, negℤ, natAbs}
 use mir.Syntax.{w64}
 use mir.Val.{SFits}
-use Rattle.planner.specs.Durations.{p, q, r, s, P}
+use Rattle.planner.specs.Durations.{p, q, r, s}
 use Rattle.planner.specs.Facts.{Ordered}
 use Rattle.profile.specs.Segments.{snapIn}
 use Rattle.profile.specs.Sums.{sum, sums}
 use Rattle.profile.specs.Profile as profile
-use Rattle.profile.specs.Widths.{span, Spread, snapBy}
+use Rattle.profile.specs.Widths.{snapBy}
 use Rattle.profile.specs.Facts.{At}
 use Rattle.motion.specs.Direction as direction
 use Rattle.motion.specs.Direction.{along}
 use Rattle.motion.specs.declared.state.State.{State}
-use Rattle.motion.specs.Inner.Steps.{StepFits, stateAt, StepsFitBy}
+use Rattle.motion.specs.Inner.Steps.{StepFits, stateAt}
 use Rattle.motion.specs.Inner.Planned.{Playable}
 use Rattle.motion.proofs.IntegerLaws.{size-negated}
 use Rattle.profile.proofs.SumLaws.{sums-negated}
-use Rattle.profile.proofs.SwitchedLaws.{snap-by-widths}
-use Rattle.profile.proofs.FourthOrder.{fifteen, fourth-order}
+use Rattle.profile.proofs.SwitchedLaws.{snap-by-negated, snap-by-widths}
+use Rattle.profile.proofs.FourthOrder.{spread, fifteen, fourth-order}
 
 -- the direction, on sums and sizes
 along-sums : (X : ℤ) (n : ℕ) (f : ℕ → ℤ) (k : ℕ) → sums n (λ i. along X (f i)) k ≡ along X (sums n f k)
@@ -37,17 +35,6 @@ pub size-along : (X x : ℤ) → natAbs (along X x) ≡ natAbs x
 unfolding along
 size-along (pos m) x = refl
 size-along (negsuc m) x = size-negated x
-
--- levels with both signs changed give the snap with its sign changed
-cond-negated : (t : Bool) (x y : ℤ) → cond t (negℤ x) (negℤ y) ≡ negℤ (cond t x y)
-cond-negated true x y = refl
-cond-negated false x y = refl
-
-snapBy-negated : (a : ℕ) (ws : List ℕ) (u v : ℤ) (k : ℕ) → snapBy a ws (negℤ u) (negℤ v) k ≡ negℤ (snapBy a ws u v k)
-unfolding snapBy
-snapBy-negated a [] u v k = cond-negated (ltb k a) u (pos 0)
-snapBy-negated a (w ∷ ws) u v k =
-    ap₂ (cond (ltb k w)) (snapBy-negated a ws u v k) (snapBy-negated a ws v u (k - w)) ∙ cond-negated (ltb k w) _ _
 
 small : (x : ℤ) → natAbs x ≤ 2 ^ 60 → SFits w64 x
 small (pos n) h = record { sfits = omega arith }
@@ -62,10 +49,6 @@ module _ {a b c e : ℕ} (o : Ordered a b c e) where
 
   one-e : 1 ≤ e
   one-e = omega (arith, o .one-a, o .abc-e)
-
-  pub spread : Spread a (e ∷ c ∷ b ∷ [])
-  unfolding Spread span
-  spread = (o .abc-e, (o .ab-c, (o .a-b, tt)))
 
 -- the products of the inner intervals are at most the product of all
 record Inner (a b c e : ℕ) : Type 0 where
@@ -91,10 +74,10 @@ played X a b c e D = snapBy a (e ∷ c ∷ b ∷ []) (along X (pos D)) (negℤ (
 played-along : (X : ℤ) {a b c e : ℕ} → Ordered a b c e → (D k : ℕ) → played X a b c e D k ≡ direction.snap X a b c e D k
 unfolding along direction.snap profile.snap
 played-along (pos m) {a} {b} {c} {e} o D k =
-    sym (snap-by-widths a (e ∷ c ∷ b ∷ []) (spread o) D k) ∙ sym (ap (λ xs. snapIn xs D k) (fifteen a b c e))
+    sym (snap-by-widths a (e ∷ c ∷ b ∷ []) (spread _ _ _ _ (o .a-b) (o .ab-c) (o .abc-e)) D k) ∙ sym (ap (λ xs. snapIn xs D k) (fifteen a b c e))
 played-along (negsuc m) {a} {b} {c} {e} o D k =
-    snapBy-negated a (e ∷ c ∷ b ∷ []) (pos D) (negℤ (pos D)) k
-    ∙ ap negℤ (sym (snap-by-widths a (e ∷ c ∷ b ∷ []) (spread o) D k) ∙ sym (ap (λ xs. snapIn xs D k) (fifteen a b c e)))
+    snap-by-negated a (e ∷ c ∷ b ∷ []) (pos D) (negℤ (pos D)) k
+    ∙ ap negℤ (sym (snap-by-widths a (e ∷ c ∷ b ∷ []) (spread _ _ _ _ (o .a-b) (o .ab-c) (o .abc-e)) D k) ∙ sym (ap (λ xs. snapIn xs D k) (fifteen a b c e)))
 
 -- the profile's sums in the direction of X
 abbrev pub directed : ℤ → (a b c e D k : ℕ) → State

@@ -1,7 +1,7 @@
 -- A run from rest over listed snaps stores the rows of the profile and keeps every later place. Assumes nothing.
 use mathlib.Core.List.{List, [], _∷_, _++_}
 use mathlib.Core.Path.{_≡_, refl, sym, ap, ap₂, subst, _∙_}
-use Prim.Native.Nat.{ℕ, zero, suc, _+_, _≤_, _<_}
+use Prim.Native.Nat.{ℕ, suc, _+_, _≤_, _<_}
 use native.Mathlib.Nat.{not-suc-le-zero}
 use native.Mathlib.Numerals.{add-one}
 use native.Mathlib.Omega.{arith}
@@ -10,7 +10,6 @@ use lib.ListN.{length, set, drop, length-append}
 use lib.Seq.{append-snoc, set-append-seam}
 use Rattle.profile.specs.Sums.{sums}
 use Rattle.motion.specs.Tables.{rowsFrom}
-use Rattle.motion.specs.declared.state.State.{State}
 use Rattle.motion.specs.Inner.Steps.{stepped, StepFits, stateAt}
 use Rattle.motion.specs.Inner.Runs.{stored, StepsFit}
 use Rattle.motion.proofs.StepLaws.{next}

@@ -1,8 +1,7 @@
 -- What the one-sample entry promises, case by case. Assumes nothing.
-use mathlib.Core.Path.{_≡_, refl, sym, ap, subst, _∙_}
+use mathlib.Core.Path.{_≡_, sym, ap, subst, _∙_}
 use Prim.Native.Nat.{ℕ, _≤_, _<_}
 use borrow.Author.Tests.{lt-ltb, le-ltb}
-use lib.Dec.{ltb}
 use lib.IntN.{ℤ}
 use Rattle.planner.specs.Outcome.{Outcome, Plans}
 use Rattle.planner.specs.Outcome as plan
@@ -11,7 +10,7 @@ use Rattle.motion.specs.Direction as direction
 use Rattle.motion.specs.Values as value
 use Rattle.motion.specs.Count.{IsCount}
 use Rattle.motion.specs.Result.{refused, given}
-use Rattle.motion.specs.Sampling.{Values, valuesWith, sampleWith, Samples}
+use Rattle.motion.specs.Sampling.{valuesWith, sampleWith, Samples}
 use Rattle.motion.specs.Answer.{values}
 use Rattle.motion.specs.declared.Sample.{Sample}
 use Rattle.motion.specs.Inner.Planned.{SampleOf}

@@ -1,8 +1,8 @@
 -- Steps from rest. Assumes nothing.
-use mathlib.Core.Path.{_≡_, refl, sym, ap, ap₂, subst, _∙_}
-use Prim.Native.Nat.{ℕ, zero, suc, _+_}
+use mathlib.Core.Path.{_≡_, refl, sym, ap, ap₂, _∙_}
+use Prim.Native.Nat.{ℕ, _+_}
 use native.Mathlib.Numerals.{add-one}
-use lib.IntN.{ℤ, pos}
+use lib.IntN.{ℤ}
 use Rattle.profile.specs.Sums.{sum, sums}
 use Rattle.motion.specs.declared.state.State.{State}
 use Rattle.motion.specs.Inner.Steps.{stepped, rest, stateAt}

@@ -1,14 +1,14 @@
 -- The whole run of a plan: it can be made, and it leaves the positions in the table. Assumes nothing.
 use mathlib.Core.List.{List, [], _∷_, _++_}
 use mathlib.Core.Path.{_≡_, sym, ap, ap₂, _∙_, fun-ext}
-use Prim.Native.Nat.{ℕ, _+_, _≤_, _<_}
+use Prim.Native.Nat.{ℕ, _+_, _≤_}
 use native.Mathlib.Omega.{arith}
 use lib.IntN.{ℤ, pos, negℤ}
 use lib.ListN.{length, length-append, replicate, drop}
 use Rattle.planner.specs.Durations.{N}
 use Rattle.profile.specs.Sums.{sum, sums}
 use Rattle.profile.specs.Widths.{span}
-use Rattle.motion.specs.Direction as direction
+use Rattle.profile.proofs.FourthOrder.{spread}
 use Rattle.motion.specs.Direction.{along}
 use Rattle.motion.specs.Tables.{rowsFrom}
 use Rattle.motion.specs.declared.state.State.{State}
@@ -17,9 +17,9 @@ use Rattle.motion.specs.Inner.Runs.{CanRun, Ran}
 use Rattle.motion.specs.Inner.Halves.{snapList, innermost, CanPlay}
 use Rattle.motion.specs.Inner.Planned.{Playable, PositionsIn}
 use Rattle.motion.proofs.RunLaws.{can-front, can-back, ran-joined, ran-length}
-use Rattle.motion.proofs.ListedLaws.{Listed, Gives, listed, listed-joined, length-snaps, rests}
+use Rattle.motion.proofs.ListedLaws.{Listed, listed, listed-joined, length-snaps, rests}
 use Rattle.motion.proofs.RowLaws.{steps-fit, stored-rows}
-use Rattle.motion.proofs.PlayLaws.{played, spread, state-is, step-fits}
+use Rattle.motion.proofs.PlayLaws.{played, state-is, step-fits}
 
 module _ (X : ℤ) (a b c e D : ℕ) (h : Playable a b c e D) where
   -- the snaps of the plan, and one sample without snap
@@ -31,7 +31,7 @@ module _ (X : ℤ) (a b c e D : ℕ) (h : Playable a b c e D) where
 
   samples : length snaps ≡ N a b c e
   unfolding span
-  samples = length-snaps a (e ∷ c ∷ b ∷ []) _ _ (spread (h .ordered))
+  samples = length-snaps a (e ∷ c ∷ b ∷ []) _ _ (spread _ _ _ _ (h .ordered .a-b) (h .ordered .ab-c) (h .ordered .abc-e))
 
   run-length : length run ≡ N a b c e + 1
   run-length = length-append snaps (pos 0 ∷ []) ∙ ap (λ (n : ℕ). n + 1) samples
@@ -40,7 +40,7 @@ module _ (X : ℤ) (a b c e D : ℕ) (h : Playable a b c e D) where
   unfolding Listed span
   run-listed =
       listed-joined snaps (pos 0 ∷ []) (played X a b c e D) 0
-      (listed a (e ∷ c ∷ b ∷ []) _ _ (spread (h .ordered)) (played X a b c e D) 0 (record { at = λ i l. ap (played X a b c e D) (omega arith) }))
+      (listed a (e ∷ c ∷ b ∷ []) _ _ (spread _ _ _ _ (h .ordered .a-b) (h .ordered .ab-c) (h .ordered .abc-e)) (played X a b c e D) 0 (record { at = λ i l. ap (played X a b c e D) (omega arith) }))
       (sym (rests a (e ∷ c ∷ b ∷ []) _ _ (0 + length snaps) (omega (arith, samples))), tt)
 
   pub can-run : {places : ℕ} → N a b c e + 1 ≤ places → CanRun run rest places
@@ -87,8 +87,7 @@ module _ (X : ℤ) (a b c e D : ℕ) (h : Playable a b c e D) where
         → N a b c e + 1 ≤ length old
         → Ran (snapList a (innermost b c e 3) u v) s old mid end
         → CanRun (replicate 1 (pos 0)) end (length mid)
-    can-end l r =
-        rw (ran-length r, profile-ran r .end-is) (can-back snaps (pos 0 ∷ []) (can-run l))
+    can-end l r = rw (ran-length r, profile-ran r .end-is) (can-back snaps (pos 0 ∷ []) (can-run l))
 
     pub all-in :
         {old mid new : List ℤ} {end last : State}

@@ -1,6 +1,6 @@
 -- Document 01, "The profile": "The count at a sample is its position to the nearest count, halves away from zero."
 use mathlib.Core.Path.{_≡_}
-use Prim.Native.Nat.{ℕ, _*_, _≤_, _<_}
+use Prim.Native.Nat.{_*_, _≤_, _<_}
 use lib.IntN.{ℤ, pos, natAbs, _-ℤ_, _*ℤ_}
 use Rattle.planner.specs.Quantities.{unitsPerCount}
 

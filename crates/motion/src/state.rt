@@ -15,12 +15,17 @@ pub(crate) fn step(state: State, snap: i64) -> State
     requires { ⌜ StepFits state snap ⌝ }
     ensures { λ r. ⌜ r ≡ stepped state snap ⌝ }
 {
+    let sample = state.sample + 1;
+    let jerk = state.jerk + snap;
+    let acceleration = state.acceleration + state.jerk;
+    let velocity = state.velocity + state.acceleration;
+    let position = state.position + state.velocity;
     State {
-        sample: state.sample + 1,
-        jerk: state.jerk + snap,
-        acceleration: state.acceleration + state.jerk,
-        velocity: state.velocity + state.acceleration,
-        position: state.position + state.velocity,
+        sample,
+        jerk,
+        acceleration,
+        velocity,
+        position,
     }
 }
 

@@ -1,6 +1,6 @@
 -- Different answers of the planner have different outcomes. Assumes nothing.
 use mathlib.Core.Path.{_≡_, refl, sym, ap, _∙_}
-use Prim.Native.Nat.{ℕ, zero, suc}
+use Prim.Native.Nat.{ℕ, zero, suc, _≤_}
 use native.Mathlib.Omega.{arith}
 use Rattle.planner.specs.Outcome.{refused, planned}
 use Rattle.planner.specs.Answer.{number, outcome}
@@ -31,6 +31,18 @@ named JerkRange = refl
 named SnapRange = refl
 named TooManySamples = refl
 
+pub number-injective : (x y : Refusal) → number x ≡ number y → x ≡ y
+number-injective x y h = sym (named x) ∙ ap refusal h ∙ named y
+
+pub number-most : (x : Refusal) → number x ≤ 7
+number-most NoDisplacement = omega arith
+number-most DisplacementRange = omega arith
+number-most VelocityRange = omega arith
+number-most AccelerationRange = omega arith
+number-most JerkRange = omega arith
+number-most SnapRange = omega arith
+number-most TooManySamples = omega arith
+
 same-plan : (x y : Plan) → outcome (Planned x) ≡ outcome (Planned y) → x ≡ y
 same-plan x y h =
     let a : x .a ≡ y .a = cc in
@@ -50,4 +62,4 @@ outcome-injective (Planned x) (Refused y) h = absurd (apart (sym h))
 outcome-injective (Refused x) (Planned y) h = absurd (apart h)
 outcome-injective (Refused x) (Refused y) h =
     let n : number x ≡ number y = cc in
-    ap Refused (sym (named x) ∙ ap refusal n ∙ named y)
+    ap Refused (number-injective x y n)

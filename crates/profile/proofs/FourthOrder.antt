@@ -20,7 +20,7 @@ unfolding segments switched span reversed opposite
 fifteen a b c e = rw (sub-add-eq c a b, sub-add-eq e (a + b) c, sub-add-eq e a b)
 
 module _ (a b c e : ℕ) (ab : a ≤ b) (abc : a + b ≤ c) (abce : a + b + c ≤ e) where
-  spread : Spread a (e ∷ c ∷ b ∷ [])
+  pub spread : Spread a (e ∷ c ∷ b ∷ [])
   unfolding Spread span
   spread = (abce, (abc, (ab, tt)))
 

@@ -65,11 +65,12 @@ module _ (a w : ℕ) (ws : List ℕ) (s : Spread a (w ∷ ws)) (D k : ℕ) where
       (λ e. early (ltb-true k w e) (decLe (samples inner) k))
       (λ e. late (ltb-false k w e))
 
-by-negated : (a : ℕ) (ws : List ℕ) (u v : ℤ) (k : ℕ) → snapBy a ws (negℤ u) (negℤ v) k ≡ negℤ (snapBy a ws u v k)
+-- levels with their signs changed
+pub snap-by-negated : (a : ℕ) (ws : List ℕ) (u v : ℤ) (k : ℕ) → snapBy a ws (negℤ u) (negℤ v) k ≡ negℤ (snapBy a ws u v k)
 unfolding snapBy
-by-negated a [] u v k = either-negated (ltb k a) u (pos 0)
-by-negated a (w ∷ ws) u v k =
-    ap₂ (cond (ltb k w)) (by-negated a ws u v k) (by-negated a ws v u (k - w))
+snap-by-negated a [] u v k = either-negated (ltb k a) u (pos 0)
+snap-by-negated a (w ∷ ws) u v k =
+    ap₂ (cond (ltb k w)) (snap-by-negated a ws u v k) (snap-by-negated a ws v u (k - w))
     ∙ either-negated (ltb k w) (snapBy a ws u v k) (snapBy a ws v u (k - w))
 
 pub snap-by-widths : (a : ℕ) (ws : List ℕ) → Spread a ws → (D k : ℕ) → snapIn (switched a ws) D k ≡ snapBy a ws (pos D) (negℤ (pos D)) k
@@ -79,5 +80,5 @@ snap-by-widths a (w ∷ ws) s D k =
     snap-switched a w ws s D k
     ∙ ap₂ (cond (ltb k w)) (snap-by-widths a ws (s .1) D k)
     (ap negℤ (snap-by-widths a ws (s .1) D (k - w))
-    ∙ sym (by-negated a ws (pos D) (negℤ (pos D)) (k - w))
+    ∙ sym (snap-by-negated a ws (pos D) (negℤ (pos D)) (k - w))
     ∙ ap (λ (v : ℤ). snapBy a ws (negℤ (pos D)) v (k - w)) (negℤ-negℤ (pos D)))

@@ -1,7 +1,7 @@
 -- What the laws say of the fourth-order profile of the intervals a, b, c, e.
 use mathlib.Core.List.{[], _∷_}
 use mathlib.Core.Path.{_≡_}
-use Prim.Native.Nat.{ℕ, _+_, _-_, _*_, _≤_}
+use Prim.Native.Nat.{ℕ, _-_, _*_, _≤_}
 use lib.IntN.{ℤ, pos, natAbs}
 use lib.Signed.{_≤ℤ_}
 use Rattle.profile.specs.Profile as profile

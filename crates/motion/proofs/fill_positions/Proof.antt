@@ -3,8 +3,8 @@ use borrow.Author.Needs.{needs}
 use mir.Syntax.{w64}
 use mir.Facts.{toZ-ofZ}
 use Rattle.motion.specs.Tables.{FillsPositions}
-use Rattle.motion.proofs.EntryLaws.{entered, not-planned, playable}
-use Rattle.motion.proofs.FillLaws.{fills-refused, fills-positions}
+use Rattle.motion.proofs.EntryLaws.{entered, not-planned, playable, position-is}
+use Rattle.motion.proofs.FillLaws.{fills-refused, fills}
 use Rattle.motion.proofs.fill_positions.Statement.{statement}
 use Rattle.motion.proofs.fill_positions.Tie as tie
 
@@ -33,10 +33,12 @@ same-length : tie.Need-same-length
 same-length c = search needs
 
 returns-2 : tie.Need-returns-2
+unfolding FillsPositions
 returns-2 c =
     let d = c .before .before .before .before .before in
     let back = toZ-ofZ {w = w64} {z = d .before .before .before .args .m .displacement} (record { sfits = c .before .before .struct-told .given .0 .1 }) in
-    fills-positions (entered (d .before .before .plan-move .ensures) (d .answer .given .1)) (rw back at (c .before .write-positions .ensures))
+    let h = entered (d .before .before .plan-move .ensures) (d .answer .given .1) in
+    fills h (position-is h) (rw back at (c .before .write-positions .ensures))
 
 pub fill-positions-spec : {M : Type 1} → statement M
 fill-positions-spec =

@@ -1,5 +1,4 @@
 -- `nearest_count` meets its contract: the tests of the remainder say which count is the nearest. Assumes nothing.
-use mathlib.Core.Bool.{true, false}
 use mathlib.Core.Path.{_≡_, sym, ap, _∙_}
 use native.Mathlib.Omega.{arith}
 use mir.Syntax.{w64}

@@ -4,8 +4,6 @@ use Rattle.motion.proofs.HalvesLaws.{pause-q, pause-r, pause-s}
 use borrow.Author.Needs.{needs}
 use Rattle.motion.proofs.intervals.between_halves.Statement.{statement}
 use Rattle.motion.proofs.intervals.between_halves.Tie as tie
-use Rattle.motion.proofs.intervals.between_halves.Reads as reads
-use Rattle.motion.proofs.intervals.between_halves.Lts as lts
 
 sub-result : tie.Need-sub-result
 sub-result c = search needs

@@ -5,8 +5,6 @@ use Rattle.planner.specs.declared.PlanAnswer.{PlanAnswer}
 use borrow.Author.Needs.{needs}
 use Rattle.motion.proofs.refusal.unplanned.Statement.{statement}
 use Rattle.motion.proofs.refusal.unplanned.Tie as tie
-use Rattle.motion.proofs.refusal.unplanned.Reads as reads
-use Rattle.motion.proofs.refusal.unplanned.Lts as lts
 
 -- src/refusal.rt:16:29
 enum-known-answer : tie.Need-enum-known-answer

@@ -1,12 +1,11 @@
 -- `store_segment` meets its contract. The loop's invariant: the run that is left comes to the same as the run asked for. Assumes nothing.
 use mathlib.Core.List.{_∷_}
-use mathlib.Core.Path.{_≡_, subst}
-use Prim.Native.Nat.{ℕ, _-_, _<_}
+use mathlib.Core.Path.{subst}
+use Prim.Native.Nat.{_-_, _<_}
 use native.Mathlib.Omega.{arith}
 use mir.Syntax.{w64}
 use mir.Val.{toZ, ofZ}
 use mir.Facts.{toZ-ofZ}
-use lib.IntN.{ℤ}
 use lib.ListN.{replicate, length}
 use Rattle.motion.specs.Inner.Runs.{Ran}
 use Rattle.motion.proofs.RunLaws.{Left, all-left, one-done, one-of, first-fits, none-of, ran-length}

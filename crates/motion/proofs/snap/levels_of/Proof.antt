@@ -1,16 +1,13 @@
 -- `levels_of` meets its contract: D is small enough to be taken either way. Assumes nothing.
 use borrow.Author.Needs.{needs}
-use mathlib.Core.Bool.{true, false}
-use mathlib.Core.Path.{_≡_, refl, sym, ap, _∙_}
+use mathlib.Core.Path.{_≡_, sym, ap, _∙_}
 use Prim.Native.Nat.{ℕ, zero, suc, _≤_, _^_}
 use native.Mathlib.Omega.{arith}
 use mir.Syntax.{w64}
 use mir.Val.{toZ, ofZ, SFits}
 use mir.ValLaws.{toZ-pos}
 use mir.Facts.{toZ-ofZ}
-use lib.IntN.{ℤ, pos, negsuc, negℤ, _-ℤ_, +ℤ-idl, negℤ-negℤ}
-use lib.Signed.{ltZ}
-use Rattle.motion.specs.Direction.{along}
+use lib.IntN.{pos, negℤ, _-ℤ_, +ℤ-idl, negℤ-negℤ}
 use Rattle.motion.proofs.DirectionLaws.{along-negative, along-positive}
 use Rattle.motion.proofs.snap.levels_of.Statement.{statement}
 use Rattle.motion.proofs.snap.levels_of.Tie as tie

@@ -10,9 +10,6 @@ use Rattle.profile.specs.Widths.{snapBy}
 use Rattle.motion.proofs.InnerSampleLaws.{inside, outside}
 use Rattle.motion.proofs.snap.snap_at.Statement.{statement}
 use Rattle.motion.proofs.snap.snap_at.Tie as tie
-use Rattle.motion.proofs.snap.snap_at.Reads as reads
-use Rattle.motion.proofs.snap.snap_at.Lts as lts
-use Rattle.motion.proofs.snap.inner_sample.Reads as inner-sample-reads
 
 inner-sample-requires : tie.Need-inner-sample-requires
 inner-sample-requires c κs = search needs

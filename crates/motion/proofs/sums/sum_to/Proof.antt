@@ -1,6 +1,6 @@
 -- `sum_to` meets its contract. The loop's invariant: the state is the one at its sample. Assumes nothing.
 use mathlib.Core.List.{[], _∷_}
-use mathlib.Core.Path.{_≡_, sym, ap, ap₂, subst, _∙_}
+use mathlib.Core.Path.{_≡_, ap, _∙_}
 use Prim.Native.Nat.{ℕ, _-_, _≤_}
 use native.Mathlib.Nat.{le-antisymm}
 use native.Mathlib.Omega.{arith}
@@ -12,7 +12,6 @@ use Rattle.planner.specs.declared.Plan.{Plan}
 use Rattle.profile.specs.Widths.{snapBy}
 use Rattle.motion.specs.declared.state.State.{State}
 use Rattle.motion.specs.declared.snap.Levels.{Levels}
-use Rattle.motion.specs.Inner.Steps.{stepped, StepFits, stateAt}
 use Rattle.motion.proofs.StepLaws.{On, on-first, on-next, on-at}
 use Rattle.motion.proofs.sums.sum_to.Statement.{statement}
 use Rattle.motion.proofs.sums.sum_to.Tie as tie

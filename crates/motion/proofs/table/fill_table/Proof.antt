@@ -4,7 +4,7 @@ use mathlib.Core.Path.{_≡_, ap, _∙_}
 use mir.Syntax.{w64}
 use mir.Val.{toZ, ofZ}
 use mir.Facts.{toZ-ofZ}
-use lib.IntN.{ℤ, pos, negℤ}
+use lib.IntN.{pos, negℤ}
 use Rattle.motion.specs.Direction.{along}
 use Rattle.motion.proofs.PlayLaws.{snap-small}
 use Rattle.motion.proofs.TableLaws.{can-play, can-end, all-in}

@@ -5,10 +5,6 @@ use Rattle.motion.proofs.FillLaws.{short, written}
 use borrow.Author.Needs.{needs}
 use Rattle.motion.proofs.table.write_positions.Statement.{statement}
 use Rattle.motion.proofs.table.write_positions.Tie as tie
-use Rattle.motion.proofs.table.write_positions.Reads as reads
-use Rattle.motion.proofs.table.write_positions.Lts as lts
-use Rattle.motion.proofs.table.fill_table.Reads as fill-table-reads
-use Rattle.motion.proofs.planned.samples_in_plan.Reads as samples-in-plan-reads
 
 samples-in-plan-requires : tie.Need-samples-in-plan-requires
 samples-in-plan-requires c κs = search needs
