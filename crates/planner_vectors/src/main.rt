@@ -2,13 +2,13 @@
 // stored answers are those of the reference, which was written from the paper alone.
 //
 // A line is five numbers of 20 bytes, X V A J S, right-aligned, with a space between and byte 10 after.
-mod number;
-
-use crate::number::read_field;
-use crate::number::signed;
 use planner::Move;
 use planner::Plan;
 use planner::PlanAnswer;
+use vector_text::read_field;
+use vector_text::signed;
+use vector_text::write_number;
+use vector_text::write_refused;
 
 fn main() {
     let mut left = 1_000_000u64;
@@ -42,10 +42,7 @@ fn read_move(line: &[u8; 105]) -> Move {
 
 fn write_answer(answer: PlanAnswer) {
     match answer {
-        PlanAnswer::Refused(refusal) => {
-            io::write_all(1, b"refused");
-            write_number(planner::refusal_number(refusal));
-        }
+        PlanAnswer::Refused(refusal) => write_refused(planner::refusal_number(refusal)),
         PlanAnswer::Planned(plan) => write_plan(plan),
     }
     io::write_all(1, b"\n");
@@ -59,9 +56,4 @@ fn write_plan(plan: Plan) {
     write_number(plan.e);
     write_number(plan.snap);
     write_number(plan.shortfall);
-}
-
-fn write_number(n: u64) {
-    io::write_all(1, b" ");
-    io::print_decimal(1, n);
 }

@@ -1,7 +1,7 @@
-// Numbers in a line: right-aligned fields of 20 bytes.
-ghost use Prim.Native.Nat.{_≤_};
+// Numbers in a line.
 
-pub(crate) struct Field {
+// How far a number is from 0, and whether a minus sign stands before it.
+pub struct Field {
     pub size: u64,
     pub minus: bool,
 }
@@ -35,24 +35,27 @@ fn with_byte(f: Field, b: u8) -> Field {
     }
 }
 
-// The field that starts at `from`.
-pub(crate) fn read_field(line: &[u8; 105], from: usize) -> Field
-    requires { ⌜ from ≤ 84 ⌝ }
-{
+// The field of 20 bytes that starts at `from`. Bytes past the end of the line are absent.
+pub fn read_field(line: &[u8], from: usize) -> Field {
     let mut field = Field {
         size: 0,
         minus: false,
     };
     let mut i = from;
-    while i < from + 20 {
+    let mut left = 20u64;
+    while 0 < left {
+        if line.len() <= i {
+            return field;
+        }
         field = with_byte(field, line[i]);
         i += 1;
+        left -= 1;
     }
     field
 }
 
 // The number of a field; 0 where it is no i64.
-pub(crate) fn signed(f: Field) -> i64 {
+pub fn signed(f: Field) -> i64 {
     let size = f.size;
     if size == 0 {
         return 0;

@@ -1,4 +1,4 @@
--- `number::signed`: −1 less a size below 2^63 is an i64. Assumes nothing.
+-- `reading::signed`: −1 less a size below 2^63 is an i64. Assumes nothing.
 use mathlib.Core.Path.{_≡_, refl, ap}
 use Prim.Native.Nat.{ℕ, zero, suc, _-_, _^_, _<_}
 use native.Mathlib.Nat.{zero-add}
@@ -7,8 +7,8 @@ use mir.Syntax.{w64}
 use mir.ValLaws.{toZ-pos}
 use lib.IntN.{pos, negsuc, _-ℤ_}
 use borrow.Author.Needs.{needs, sfits-of}
-use Rattle.planner_vectors.proofs.number.signed.Statement.{statement}
-use Rattle.planner_vectors.proofs.number.signed.Tie as tie
+use Rattle.vector_text.proofs.reading.signed.Statement.{statement}
+use Rattle.vector_text.proofs.reading.signed.Tie as tie
 
 returns : tie.Need-returns
 returns c = search needs
