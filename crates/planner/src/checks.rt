@@ -7,7 +7,7 @@ ghost use Rattle.planner.specs.Outcome.{outOfRange};
 const MOST_BOUND: u64 = 1_125_899_906_842_624;
 
 // The size of x, the least i64 too.
-pub(crate) fn magnitude(x: i64) -> u64
+pub fn magnitude(x: i64) -> u64
     ensures { λ r. ⌜ r ≡ natAbs x ⌝ }
 {
     if x < 0 { (-1 - x) as u64 + 1 } else { x as u64 }

@@ -4,9 +4,9 @@ mod in_range;
 mod intervals;
 mod search;
 
-use crate::checks::magnitude;
 use crate::checks::out_of_range;
 use crate::in_range::plan_in_range;
+pub use checks::magnitude;
 ghost use mathlib.Core.Path.{_≡_};
 ghost use Rattle.planner.specs.Outcome.{Plans};
 ghost use Rattle.planner.specs.Answer.{number, outcome};

@@ -5,7 +5,6 @@ mod writing;
 pub use reading::Field;
 pub use reading::read_field;
 pub use reading::signed;
-pub use writing::magnitude;
 pub use writing::write_number;
 pub use writing::write_refused;
 pub use writing::write_signed;

@@ -1,7 +1,7 @@
 // A sum over all places of a table, so that no place can differ unseen.
+use planner::magnitude;
 use std::num::wrapping_add_u64;
 use std::num::wrapping_sub_u64;
-use vector_text::magnitude;
 
 // From 0, for each place in order: 33 times the sum so far, and the place as 64 bits. It wraps.
 pub(crate) fn sum_of(table: &[i64]) -> u64 {
