@@ -21,16 +21,12 @@ use Rattle.profile.proofs.FourthOrder.{fourth-order, fourth-order-end}
 use Rattle.motion.specs.Direction as direction
 use Rattle.motion.specs.Direction.{along}
 use Rattle.motion.specs.Count.{IsCount}
+use Rattle.motion.proofs.DirectionLaws.{along-zero}
 use Rattle.motion.proofs.IntegerLaws.{multiple-negated}
 use Rattle.motion.proofs.CountLaws.{mirrored, count-positive}
-use Rattle.motion.proofs.PlayLaws.{size-along}
+use Rattle.motion.proofs.StateLaws.{size-along}
 
 -- the direction, on sums
-along-zero : (X : ℤ) → along X (pos 0) ≡ pos 0
-unfolding along
-along-zero (pos n) = refl
-along-zero (negsuc n) = refl
-
 along-sum : (X x y : ℤ) → along X (x +ℤ y) ≡ along X x +ℤ along X y
 unfolding along
 along-sum (pos n) x y = refl

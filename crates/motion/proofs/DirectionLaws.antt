@@ -16,3 +16,8 @@ pub along-positive : (X value : ℤ) → ltZ X (pos 0) ≡ false → along X val
 unfolding along
 along-positive (pos n) value h = refl
 along-positive (negsuc n) value h = absurd (true≢false h)
+
+pub along-zero : (X : ℤ) → along X (pos 0) ≡ pos 0
+unfolding along
+along-zero (pos n) = refl
+along-zero (negsuc n) = refl

@@ -2,10 +2,11 @@ pub mod DirectionLaws
 pub mod InnerSampleLaws
 pub mod StepLaws
 pub mod RunLaws
-pub mod HalvesLaws
+pub mod SegmentLaws
 pub mod ListedLaws
 pub mod RowLaws
-pub mod PlayLaws
+pub mod StateLaws
+pub mod DirectedSnap
 pub mod TableLaws
 pub mod EntryLaws
 pub mod SamplingLaws

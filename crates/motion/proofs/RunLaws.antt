@@ -108,3 +108,17 @@ ran-joined {xs} {ys} {s} {t} {u} {first} h k =
       table-is = k .table-is ∙ ap₂ (stored ys) (h .end-is) (h .table-is) ∙ sym (stored-joined xs ys s first);
       end-is = k .end-is ∙ ap (after ys) (h .end-is) ∙ sym (after-joined xs ys s);
     }
+
+-- the first part of what is left
+module _ (xs ys : List ℤ) {zs : List ℤ} {s s₀ : State} {table table₀ : List ℤ} (h : Left (xs ++ ys) s table zs s₀ table₀) where
+  pub can-part : CanRun xs s (length table)
+  can-part = can-front xs ys (h .can)
+
+  pub part-done : {t : State} {new : List ℤ} → Ran xs s table new t → Left ys t new zs s₀ table₀
+  part-done {t} {new} r =
+      record {
+        can = rw (ran-length r, r .end-is) (can-back xs ys (h .can));
+        same-length = ran-length r ∙ h .same-length;
+        table-is = ap₂ (stored ys) (r .end-is) (r .table-is) ∙ sym (stored-joined xs ys s table) ∙ h .table-is;
+        end-is = ap (after ys) (r .end-is) ∙ sym (after-joined xs ys s) ∙ h .end-is;
+      }

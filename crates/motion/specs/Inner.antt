@@ -3,4 +3,4 @@ pub mod InnerSamples
 pub mod Steps
 pub mod Planned
 pub mod Runs
-pub mod Halves
+pub mod SegmentSnaps

@@ -1,12 +1,12 @@
 // One sample of a move, and the tables that the drive and the feedback loop play. Every entry takes the move's own numbers and plans
 // inside.
 mod count;
-mod intervals;
 mod planned;
 mod refusal;
-mod segment;
+mod segments;
 mod snap;
 mod state;
+mod store;
 mod sums;
 mod table;
 

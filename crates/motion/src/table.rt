@@ -1,11 +1,12 @@
 // The table of a plan's positions.
 use crate::MotionRefusal;
 use crate::TableAnswer;
-use crate::intervals::store_intervals;
 use crate::planned::samples_in_plan;
-use crate::segment::store_segment;
+use crate::segments::durations_of;
+use crate::segments::segment_at;
 use crate::snap::levels_of;
 use crate::state::at_rest;
+use crate::store::store_segment;
 use planner::Plan;
 ghost use Prim.Native.Nat.{_+_, _≤_};
 ghost use Rattle.planner.specs.Durations.{N};
@@ -19,8 +20,15 @@ fn fill_table(table: &mut [i64], displacement: i64, plan: Plan)
     ensures { λ r. ⌜ PositionsIn displacement (plan .a) (plan .b) (plan .c) (plan .e) (plan .snap) (now (table .entry)) (now (table .exit)) ⌝ }
 {
     let levels = levels_of(displacement, plan.snap);
-    let end = store_intervals(table, plan, 3, levels, at_rest());
-    let last = store_segment(table, 1, 0, end);
+    let durations = durations_of(plan);
+    let mut state = at_rest();
+    let mut i = 0u64;
+    while i < 15 {
+        let segment = segment_at(durations, levels, i);
+        state = store_segment(table, segment.samples, segment.snap, state);
+        i += 1;
+    }
+    let last = store_segment(table, 1, 0, state);
 }
 
 // The rows of a plan where the table has room for them, else refusal 8.

@@ -12,7 +12,8 @@ use Rattle.motion.specs.declared.state.State.{State}
 use Rattle.motion.specs.Direction as direction
 use Rattle.motion.specs.Direction.{along}
 use Rattle.motion.specs.Inner.Steps.{StepsFitBy, stateAt}
-use Rattle.motion.proofs.PlayLaws.{played, directed, snap-is, state-is, step-fits, snap-small}
+use Rattle.motion.proofs.StateLaws.{directed, state-is, step-fits, snap-small}
+use Rattle.motion.proofs.DirectedSnap.{directed-snap}
 use Rattle.motion.proofs.sums.sample_in_plan.Statement.{statement}
 use Rattle.motion.proofs.sums.sample_in_plan.Tie as tie
 
@@ -24,11 +25,12 @@ levels :
     (c : tie.After-levels-of)
     → snapBy (c .before .args .plan .a) (c .before .args .plan .e ∷ c .before .args .plan .c ∷ c .before .args .plan .b ∷ [])
     (c .levels-of .result .up) (c .levels-of .result .down)
-    ≡ played (c .before .args .displacement) (c .before .args .plan .a) (c .before .args .plan .b) (c .before .args .plan .c) (c .before .args .plan .e) (c .before .args .plan .snap)
+    ≡ direction.snap (c .before .args .displacement) (c .before .args .plan .a) (c .before .args .plan .b) (c .before .args .plan .c) (c .before .args .plan .e) (c .before .args .plan .snap)
 levels c =
     let back = ap (λ x. along x (pos (c .before .args .plan .snap))) (toZ-ofZ {w = w64} {z = c .before .args .displacement} (c .before .fits .displacement)) in
     ap₂ (snapBy (c .before .args .plan .a) (c .before .args .plan .e ∷ c .before .args .plan .c ∷ c .before .args .plan .b ∷ []))
     (c .levels-of .ensures .0 ∙ back) (c .levels-of .ensures .1 ∙ ap negℤ back)
+    ∙ directed-snap (c .before .args .displacement) (c .before .pre .0 .ordered) (c .before .args .plan .snap)
 
 sum-to-requires : tie.Need-sum-to-requires
 sum-to-requires c κs =
@@ -49,13 +51,12 @@ state :
 state c =
     c .sum-to .ensures
     ∙ ap (λ (f : ℕ → ℤ). stateAt f (c .before .before .args .k)) (levels (c .before))
-    ∙ state-is (c .before .before .args .displacement) _ _ _ _ _ (c .before .before .pre .0) (c .before .before .args .k)
+    ∙ state-is (c .before .before .args .displacement) _ _ _ _ _ (c .before .before .args .k)
 
 snap : (c : tie.After-snap-at) → c .snap-at .result ≡ direction.snap (c .before .before .before .args .displacement) (c .before .before .before .args .plan .a) (c .before .before .before .args .plan .b) (c .before .before .before .args .plan .c) (c .before .before .before .args .plan .e) (c .before .before .before .args .plan .snap) (c .before .before .before .args .k)
 snap c =
     c .snap-at .ensures
     ∙ ap (λ (f : ℕ → ℤ). f (c .before .before .before .args .k)) (levels (c .before .before))
-    ∙ snap-is (c .before .before .before .args .displacement) _ _ _ _ _ (c .before .before .before .pre .0) (c .before .before .before .args .k)
 
 returns : tie.Need-returns
 returns c =

@@ -1,59 +1,129 @@
--- `fill_table` meets its contract: the two calls make the whole run of the plan from rest. Assumes nothing.
-use borrow.Author.Needs.{needs}
+-- `fill_table` meets its contract. The loop's invariant: the segments that are left come to the same as all of them. Assumes nothing.
+use mathlib.Core.List.{[], _∷_, _++_}
 use mathlib.Core.Path.{_≡_, ap, _∙_}
+use Prim.Native.Nat.{_+_, _-_, _≤_}
+use native.Mathlib.Nat.{le-antisymm}
+use native.Mathlib.Omega.{arith}
 use mir.Syntax.{w64}
 use mir.Val.{toZ, ofZ}
 use mir.Facts.{toZ-ofZ}
 use lib.IntN.{pos, negℤ}
+use lib.ListN.{replicate}
 use Rattle.motion.specs.Direction.{along}
-use Rattle.motion.proofs.PlayLaws.{snap-small}
-use Rattle.motion.proofs.TableLaws.{can-play, can-end, all-in}
+use Rattle.motion.specs.Inner.Runs.{Ran}
+use Rattle.motion.proofs.StateLaws.{snap-small}
+use Rattle.motion.proofs.RunLaws.{Left, all-left, can-part, part-done, none-left, ran-length}
+use Rattle.motion.proofs.TableLaws.{run, can-run, positions-in, todo, one-segment, last-row, whole-run}
 use Rattle.motion.proofs.table.fill_table.Statement.{statement}
 use Rattle.motion.proofs.table.fill_table.Tie as tie
 
-levels-of-requires : tie.Need-levels-of-requires
+abbrev Inv-loop : tie.InvT-loop
+Inv-loop table₀ displacement levels durations state₀ i₀ table state i =
+    (i ≤ 15) × Left (todo durations levels i) state table (todo durations levels 0) state₀ table₀
+
+abbrev μ-loop : tie.MeasureT-loop
+μ-loop table₀ displacement levels durations state₀ i₀ table state i = 15 - i
+
+levels-of-requires : tie.Need-levels-of-requires Inv-loop μ-loop
 levels-of-requires c κs = snap-small (c .args .displacement) _ _ _ _ _ (c .pre .0)
 
+durations-of-requires : tie.Need-durations-of-requires Inv-loop μ-loop
+durations-of-requires c κs = c .before .pre .0 .ordered
+
+at-rest-requires : tie.Need-at-rest-requires Inv-loop μ-loop
+at-rest-requires c κs = tt
+
 -- the direction, as it was passed on
-forward : (c : tie.After-levels-of) → along (toZ w64 (ofZ w64 (c .before .args .displacement))) (pos (c .before .args .plan .snap)) ≡ along (c .before .args .displacement) (pos (c .before .args .plan .snap))
+forward : (c : tie.After-levels-of Inv-loop μ-loop) → along (toZ w64 (ofZ w64 (c .before .args .displacement))) (pos (c .before .args .plan .snap)) ≡ along (c .before .args .displacement) (pos (c .before .args .plan .snap))
 forward c = ap (λ x. along x (pos (c .before .args .plan .snap))) (toZ-ofZ {w = w64} {z = c .before .args .displacement} (c .before .fits .displacement))
 
-up : (c : tie.After-levels-of) → c .levels-of .result .up ≡ along (c .before .args .displacement) (pos (c .before .args .plan .snap))
-up c = c .levels-of .ensures .0 ∙ forward c
+-- the segments are those of the plan
+all :
+    (c : tie.After-durations-of Inv-loop μ-loop)
+    → todo (c .durations-of .result) (c .before .levels-of .result) 0
+    ≡ run (c .before .before .args .displacement) (c .before .before .args .plan .a) (c .before .before .args .plan .b) (c .before .before .args .plan .c) (c .before .before .args .plan .e) (c .before .before .args .plan .snap) (c .before .before .pre .0)
+all c =
+    let t = c .before .levels-of .ensures in
+    whole-run _ _ (c .before .before .args .displacement) (c .before .before .pre .0) (c .durations-of .ensures)
+    (t .0 ∙ forward (c .before)) (t .1 ∙ ap negℤ (forward (c .before)))
 
-down : (c : tie.After-levels-of) → c .levels-of .result .down ≡ negℤ (along (c .before .args .displacement) (pos (c .before .args .plan .snap)))
-down c = c .levels-of .ensures .1 ∙ ap negℤ (forward c)
+loop-holds : tie.Need-loop-holds Inv-loop μ-loop
+loop-holds c =
+    let d = c .before .before .before in
+    (omega arith, all-left (rw (all (c .before), c .at-rest .ensures) (can-run (d .args .displacement) _ _ _ _ _ (d .pre .0) (d .pre .1))))
 
-at-rest-requires : tie.Need-at-rest-requires
-at-rest-requires c κs = search needs
+segment-at-requires : tie.Need-segment-at-requires Inv-loop μ-loop
+segment-at-requires c κs = c .loop-test .taken
 
-store-intervals-requires : tie.Need-store-intervals-requires
-store-intervals-requires c κs =
-    let d = c .before .before in
-    can-play (d .before .args .displacement) _ _ _ _ _ (d .before .pre .0) (up d) (down d) (c .at-rest .ensures) (d .before .pre .1)
+-- one segment, and what is left after it
+parted :
+    (c : tie.After-struct-told Inv-loop μ-loop)
+    → Left
+    (replicate (c .before .before .segment-at .result .samples) (toZ w64 (ofZ w64 (c .before .before .segment-at .result .snap)))
+    ++ todo (c .before .before .before .before .before .before .durations-of .result) (c .before .before .before .before .before .before .before .levels-of .result) (c .before .before .before .before .loop .i + 1))
+    (c .before .before .before .before .loop .state) (c .before .before .before .before .loop .table)
+    (todo (c .before .before .before .before .before .before .durations-of .result) (c .before .before .before .before .before .before .before .levels-of .result) 0)
+    (c .before .before .before .before .before .at-rest .result) (c .before .before .before .before .before .before .before .before .args .table .now)
+parted c =
+    let g = c .before .before .segment-at in
+    let back = toZ-ofZ {w = w64} {z = g .result .snap} (record { sfits = c .struct-told .given .1 .0 .1 }) in
+    rw (back, ← one-segment _ _ (g .ensures)) (c .before .before .before .before .loop .inv .1)
 
-store-segment-requires : tie.Need-store-segment-requires
-store-segment-requires c κs =
-    let t = c .before .before in
-    let d = t .before .before .before in
-    can-end (d .before .args .displacement) _ _ _ _ _ (d .before .pre .0) (up d) (down d) (t .before .at-rest .ensures) (d .before .pre .1) (t .store-intervals .ensures)
+store-segment-requires : tie.Need-store-segment-requires Inv-loop μ-loop
+store-segment-requires c κs = can-part _ _ (parted c)
 
-same-length : tie.Need-same-length
-same-length c = search needs
+add-i : tie.Need-add-i Inv-loop μ-loop
+add-i c = omega arith
 
-returns : tie.Need-returns
+loop-less : tie.Need-loop-less Inv-loop μ-loop
+loop-less c = omega arith
+
+loop-again : tie.Need-loop-again Inv-loop μ-loop
+loop-again c = (omega arith, part-done _ _ (parted (c .before .before)) (c .before .store-segment .ensures))
+
+-- only the last row is left
+ended :
+    (c : tie.After-loop Inv-loop μ-loop)
+    → Left (pos 0 ∷ []) (c .before .loop .state) (c .before .loop .table)
+    (todo (c .before .before .before .durations-of .result) (c .before .before .before .before .levels-of .result) 0)
+    (c .before .before .at-rest .result) (c .before .before .before .before .before .args .table .now)
+ended c = rw (last-row _ _ (le-antisymm (c .before .loop .inv .0) (c .loop-test .left))) at (c .before .loop .inv .1)
+
+store-segment-requires-2 : tie.Need-store-segment-requires-2 Inv-loop μ-loop
+store-segment-requires-2 c κs = ended (c .before) .can
+
+ran :
+    (c : tie.After-table2 Inv-loop μ-loop)
+    → Ran
+    (todo (c .before .before .before .before .before .before .durations-of .result) (c .before .before .before .before .before .before .before .levels-of .result) 0)
+    (c .before .before .before .before .before .at-rest .result) (c .before .before .before .before .before .before .before .before .args .table .now)
+    (c .before .store-segment2 .last .0) (c .before .store-segment2 .result)
+ran c = none-left (part-done (pos 0 ∷ []) [] (ended (c .before .before .before)) (c .before .store-segment2 .ensures))
+
+same-length : tie.Need-same-length Inv-loop μ-loop
+same-length c = ran-length (ran c)
+
+returns : tie.Need-returns Inv-loop μ-loop
 returns c =
-    let t = c .before .before .before .before in
-    let d = t .before .before .before in
-    all-in (d .before .args .displacement) _ _ _ _ _ (d .before .pre .0) (up d) (down d) (t .before .at-rest .ensures) (d .before .pre .1) (t .store-intervals .ensures) (c .before .store-segment .ensures)
+    let r = c .before .before .before .before .before in
+    let d = r .before .before .before in
+    positions-in (d .args .displacement) _ _ _ _ _ (d .pre .0) (d .pre .1) (rw (all (r .before), r .at-rest .ensures) at (ran c))
 
 pub fill-table-spec : {M : Type 1} → statement M
 fill-table-spec =
     tie.close
     (tie.spec
+    Inv-loop
+    μ-loop
     levels-of-requires
+    durations-of-requires
     at-rest-requires
-    store-intervals-requires
+    loop-holds
+    segment-at-requires
     store-segment-requires
+    add-i
+    loop-less
+    loop-again
+    store-segment-requires-2
     same-length
     returns)

@@ -9,8 +9,8 @@ use mir.Facts.{toZ-ofZ}
 use lib.ListN.{replicate, length}
 use Rattle.motion.specs.Inner.Runs.{Ran}
 use Rattle.motion.proofs.RunLaws.{Left, all-left, one-done, one-of, first-fits, none-of, ran-length}
-use Rattle.motion.proofs.segment.store_segment.Statement.{statement}
-use Rattle.motion.proofs.segment.store_segment.Tie as tie
+use Rattle.motion.proofs.store.store_segment.Statement.{statement}
+use Rattle.motion.proofs.store.store_segment.Tie as tie
 
 abbrev Inv-loop : tie.InvT-loop
 Inv-loop table₀ count snap current₀ left₀ table current left =

@@ -1,19 +1,16 @@
--- The sums that the code makes of a plan's snap are the values of the profile in the move's direction, and none leaves its range.
+-- The sums of a plan's snap in the move's direction are the profile's values, and none leaves its range.
 -- Assumes nothing.
-use mathlib.Core.List.{[], _∷_}
-use mathlib.Core.Path.{_≡_, refl, sym, ap, subst, _∙_, fun-ext}
+use mathlib.Core.Path.{_≡_, refl, sym, subst}
 use Prim.Native.Nat.{ℕ, suc, _-_, _*_, _≤_, _^_}
 use native.Mathlib.Nat.{le-trans, mul-le-mul-left, le-of-eq, mul-one}
 use native.Mathlib.Omega.{arith}
-use lib.IntN.{ℤ, pos, negsuc, negℤ, natAbs}
+use lib.IntN.{ℤ, pos, negsuc, natAbs}
 use mir.Syntax.{w64}
 use mir.Val.{SFits}
 use Rattle.planner.specs.Durations.{p, q, r, s}
 use Rattle.planner.specs.Facts.{Ordered}
-use Rattle.profile.specs.Segments.{snapIn}
 use Rattle.profile.specs.Sums.{sum, sums}
 use Rattle.profile.specs.Profile as profile
-use Rattle.profile.specs.Widths.{snapBy}
 use Rattle.profile.specs.Facts.{At}
 use Rattle.motion.specs.Direction as direction
 use Rattle.motion.specs.Direction.{along}
@@ -22,8 +19,7 @@ use Rattle.motion.specs.Inner.Steps.{StepFits, stateAt}
 use Rattle.motion.specs.Inner.Planned.{Playable}
 use Rattle.motion.proofs.IntegerLaws.{size-negated}
 use Rattle.profile.proofs.SumLaws.{sums-negated}
-use Rattle.profile.proofs.SwitchedLaws.{snap-by-negated, snap-by-widths}
-use Rattle.profile.proofs.FourthOrder.{spread, fifteen, fourth-order}
+use Rattle.profile.proofs.FourthOrder.{fourth-order}
 
 -- the direction, on sums and sizes
 along-sums : (X : ℤ) (n : ℕ) (f : ℕ → ℤ) (k : ℕ) → sums n (λ i. along X (f i)) k ≡ along X (sums n f k)
@@ -67,18 +63,6 @@ inner {a} {b} {c} {e} o =
     let v = le-trans (grows a (one-b o)) u in
     record { in-one = le-trans (o .one-a) v; in-a = v; in-b = u; in-c = t }
 
--- the snap that the code plays
-abbrev pub played : ℤ → (a b c e D : ℕ) → ℕ → ℤ
-played X a b c e D = snapBy a (e ∷ c ∷ b ∷ []) (along X (pos D)) (negℤ (along X (pos D)))
-
-played-along : (X : ℤ) {a b c e : ℕ} → Ordered a b c e → (D k : ℕ) → played X a b c e D k ≡ direction.snap X a b c e D k
-unfolding along direction.snap profile.snap
-played-along (pos m) {a} {b} {c} {e} o D k =
-    sym (snap-by-widths a (e ∷ c ∷ b ∷ []) (spread _ _ _ _ (o .a-b) (o .ab-c) (o .abc-e)) D k) ∙ sym (ap (λ xs. snapIn xs D k) (fifteen a b c e))
-played-along (negsuc m) {a} {b} {c} {e} o D k =
-    snap-by-negated a (e ∷ c ∷ b ∷ []) (pos D) (negℤ (pos D)) k
-    ∙ ap negℤ (sym (snap-by-widths a (e ∷ c ∷ b ∷ []) (spread _ _ _ _ (o .a-b) (o .ab-c) (o .abc-e)) D k) ∙ sym (ap (λ xs. snapIn xs D k) (fifteen a b c e)))
-
 -- the profile's sums in the direction of X
 abbrev pub directed : ℤ → (a b c e D k : ℕ) → State
 directed X a b c e D k =
@@ -90,21 +74,19 @@ directed X a b c e D k =
       position = direction.position X a b c e D k;
     }
 
-module _ (X : ℤ) (a b c e D : ℕ) (h : Playable a b c e D) where
+module _ (X : ℤ) (a b c e D : ℕ) where
   abbrev plain : ℕ → ℤ
   plain = profile.snap (p a) (q a b) (r a b c) (s a b c e) D
 
-  pub snap-is : (k : ℕ) → played X a b c e D k ≡ direction.snap X a b c e D k
-  snap-is k = played-along X (h .ordered) D k
-
-  sums-are : (n k : ℕ) → sums n (played X a b c e D) k ≡ along X (sums n plain k)
+  sums-are : (n k : ℕ) → sums n (direction.snap X a b c e D) k ≡ along X (sums n plain k)
   unfolding direction.snap
-  sums-are n k = ap (λ (f : ℕ → ℤ). sums n f k) (fun-ext snap-is) ∙ along-sums X n plain k
+  sums-are n k = along-sums X n plain k
 
-  pub state-is : (k : ℕ) → stateAt (played X a b c e D) k ≡ directed X a b c e D k
+  pub state-is : (k : ℕ) → stateAt (direction.snap X a b c e D) k ≡ directed X a b c e D k
   unfolding direction.jerk direction.acceleration direction.velocity direction.position profile.jerk profile.acceleration profile.velocity profile.position sums
   state-is k = λ i. record { sample = k; jerk = sums-are 1 k i; acceleration = sums-are 2 k i; velocity = sums-are 3 k i; position = sums-are 4 k i }
 
+module _ (X : ℤ) (a b c e D : ℕ) (h : Playable a b c e D) where
   at : (k : ℕ) → At a b c e D k
   at k = fourth-order a b c e (h .ordered .a-b) (h .ordered .ab-c) (h .ordered .abc-e) D k
 
@@ -112,10 +94,10 @@ module _ (X : ℤ) (a b c e D : ℕ) (h : Playable a b c e D) where
   below : {m n : ℕ} → m ≤ D * n → n ≤ a * b * c * e → m ≤ 2 ^ 60
   below k l = le-trans k (le-trans (mul-le-mul-left D l) (h .reach))
 
-  fits : (n k : ℕ) → natAbs (sums n plain k) ≤ 2 ^ 60 → SFits w64 (sums n (played X a b c e D) k)
-  fits n k l = small _ (rw (sums-are n k, size-along X (sums n plain k)) l)
+  fits : (n k : ℕ) → natAbs (sums n (plain X a b c e D) k) ≤ 2 ^ 60 → SFits w64 (sums n (direction.snap X a b c e D) k)
+  fits n k l = small _ (rw (sums-are X a b c e D n k, size-along X (sums n (plain X a b c e D) k)) l)
 
-  pub step-fits : (k : ℕ) → k ≤ 4096 → StepFits (stateAt (played X a b c e D) k) (played X a b c e D k)
+  pub step-fits : (k : ℕ) → k ≤ 4096 → StepFits (stateAt (direction.snap X a b c e D) k) (direction.snap X a b c e D k)
   unfolding sum sums profile.jerk profile.acceleration profile.velocity profile.position
   step-fits k l =
       let t = at (suc k) in

@@ -1,0 +1,79 @@
+-- The fifteen segments by their numbers: which have + and −, and which last q, r and s samples without snap. Assumes nothing.
+use mathlib.Core.List.{List, [], _∷_}
+use mathlib.Core.Logic.{_⊎_, inl, inr, ⊎-elim}
+use mathlib.Core.Path.{_≡_, refl, sym, subst}
+use Prim.Native.Nat.{ℕ, zero, suc, _<_}
+use native.Mathlib.Omega.{arith}
+use lib.IntN.{ℤ, pos}
+use Rattle.profile.specs.Segments.{segments}
+use Rattle.motion.specs.declared.segments.Durations.{Durations}
+use Rattle.motion.specs.declared.snap.Levels.{Levels}
+use Rattle.motion.specs.Inner.SegmentSnaps.{level, snapsOf, NextSegment}
+
+-- i is k or one of ks
+abbrev pub Among : ℕ → List ℕ → ℕ → Type 0
+Among k [] i = i ≡ k
+Among k (l ∷ ks) i = (i ≡ k) ⊎ Among l ks i
+
+abbrev pub All : (ℕ → Type 0) → List ℕ → Type 0
+All P [] = Unit {0}
+All P (k ∷ ks) = P k × All P ks
+
+pub at-key : (P : ℕ → Type 0) (k : ℕ) (ks : List ℕ) (i : ℕ) → Among k ks i → All P (k ∷ ks) → P i
+at-key P k [] i h a = subst P (sym h) (a .0)
+at-key P k (l ∷ ks) i h a = ⊎-elim (λ q. subst P (sym q) (a .0)) (λ m. at-key P l ks i m (a .1)) h
+
+pub others :
+    (i : ℕ)
+    → i < 15
+    → (Among 0 (6 ∷ 10 ∷ 12 ∷ []) i → ⊥)
+    → (Among 2 (4 ∷ 8 ∷ 14 ∷ []) i → ⊥)
+    → (Among 3 (11 ∷ []) i → ⊥)
+    → (i ≡ 7 → ⊥)
+    → Among 1 (5 ∷ 9 ∷ 13 ∷ []) i
+others zero l a b c d = absurd (a (inl refl))
+others (suc zero) l a b c d = inl refl
+others (suc (suc zero)) l a b c d = absurd (b (inl refl))
+others (suc (suc (suc zero))) l a b c d = absurd (c (inl refl))
+others (suc (suc (suc (suc zero)))) l a b c d = absurd (b (inr (inl refl)))
+others (suc (suc (suc (suc (suc zero))))) l a b c d = inr (inl refl)
+others (suc (suc (suc (suc (suc (suc zero)))))) l a b c d = absurd (a (inr (inl refl)))
+others (suc (suc (suc (suc (suc (suc (suc zero))))))) l a b c d = absurd (d refl)
+others (suc (suc (suc (suc (suc (suc (suc (suc zero)))))))) l a b c d = absurd (b (inr (inr (inl refl))))
+others (suc (suc (suc (suc (suc (suc (suc (suc (suc zero))))))))) l a b c d = inr (inr (inl refl))
+others (suc (suc (suc (suc (suc (suc (suc (suc (suc (suc zero)))))))))) l a b c d = absurd (a (inr (inr (inl refl))))
+others (suc (suc (suc (suc (suc (suc (suc (suc (suc (suc (suc zero))))))))))) l a b c d = absurd (c (inr refl))
+others (suc (suc (suc (suc (suc (suc (suc (suc (suc (suc (suc (suc zero)))))))))))) l a b c d = absurd (a (inr (inr (inr refl))))
+others (suc (suc (suc (suc (suc (suc (suc (suc (suc (suc (suc (suc (suc zero))))))))))))) l a b c d = inr (inr (inr refl))
+others (suc (suc (suc (suc (suc (suc (suc (suc (suc (suc (suc (suc (suc (suc zero)))))))))))))) l a b c d = absurd (b (inr (inr (inr refl))))
+others (suc (suc (suc (suc (suc (suc (suc (suc (suc (suc (suc (suc (suc (suc (suc i))))))))))))))) l a b c d = absurd (omega arith)
+
+module _ (d : Durations) (levels : Levels) where
+  abbrev At : (samples : ℕ) (snap : ℤ) → ℕ → Type 0
+  At samples snap i = NextSegment d levels i (record { samples = samples; snap = snap })
+
+  pub with-plus : (i : ℕ) → Among 0 (6 ∷ 10 ∷ 12 ∷ []) i → At (d .p) (levels .up) i
+  unfolding segments level snapsOf
+  with-plus i h =
+      at-key (At (d .p) (levels .up)) 0 (6 ∷ 10 ∷ 12 ∷ []) i h
+      (record { splits = refl }, (record { splits = refl }, (record { splits = refl }, (record { splits = refl }, tt))))
+
+  pub with-minus : (i : ℕ) → Among 2 (4 ∷ 8 ∷ 14 ∷ []) i → At (d .p) (levels .down) i
+  unfolding segments level snapsOf
+  with-minus i h =
+      at-key (At (d .p) (levels .down)) 2 (4 ∷ 8 ∷ 14 ∷ []) i h
+      (record { splits = refl }, (record { splits = refl }, (record { splits = refl }, (record { splits = refl }, tt))))
+
+  pub lasting-q : (i : ℕ) → Among 1 (5 ∷ 9 ∷ 13 ∷ []) i → At (d .q) (pos 0) i
+  unfolding segments level snapsOf
+  lasting-q i h =
+      at-key (At (d .q) (pos 0)) 1 (5 ∷ 9 ∷ 13 ∷ []) i h
+      (record { splits = refl }, (record { splits = refl }, (record { splits = refl }, (record { splits = refl }, tt))))
+
+  pub lasting-r : (i : ℕ) → Among 3 (11 ∷ []) i → At (d .r) (pos 0) i
+  unfolding segments level snapsOf
+  lasting-r i h = at-key (At (d .r) (pos 0)) 3 (11 ∷ []) i h (record { splits = refl }, (record { splits = refl }, tt))
+
+  pub lasting-s : (i : ℕ) → Among 7 [] i → At (d .s) (pos 0) i
+  unfolding segments level snapsOf
+  lasting-s i h = at-key (At (d .s) (pos 0)) 7 [] i h (record { splits = refl }, tt)

@@ -1,0 +1,37 @@
+-- The snaps of a list of segments, sample by sample, and the code's segments.
+use mathlib.Core.List.{List, [], _∷_, _++_}
+use mathlib.Core.Path.{_≡_}
+use Prim.Native.Nat.{ℕ, _+_}
+use lib.IntN.{ℤ, pos}
+use lib.ListN.{drop, replicate}
+use Rattle.planner.specs.Durations as durations
+use Rattle.profile.specs.Segments.{Sign, positive, none, negative, segment, segments}
+use Rattle.profile.specs.Segments as profile
+use Rattle.motion.specs.declared.segments.Durations.{Durations}
+use Rattle.motion.specs.declared.segments.Segment.{Segment}
+use Rattle.motion.specs.declared.snap.Levels.{Levels}
+
+-- u in segments with +, v in those with −.
+unfoldable pub level : Sign → (u v : ℤ) → ℤ
+level positive u v = u
+level none u v = pos 0
+level negative u v = v
+
+unfoldable pub snapsOf : List profile.Segment → (u v : ℤ) → List ℤ
+snapsOf [] u v = []
+snapsOf (segment n sign ∷ rest) u v = replicate n (level sign u v) ++ snapsOf rest u v
+
+pub record IsDurations (a b c e : ℕ) (d : Durations) : Type 0 where
+  pub p-is : d .p ≡ durations.p a
+  pub q-is : d .q ≡ durations.q a b
+  pub r-is : d .r ≡ durations.r a b c
+  pub s-is : d .s ≡ durations.s a b c e
+
+abbrev pub fifteenOf : Durations → List profile.Segment
+fifteenOf d = segments (d .p) (d .q) (d .r) (d .s)
+
+-- The snaps from segment i on are those of g and of the segments after it.
+pub record NextSegment (d : Durations) (levels : Levels) (i : ℕ) (g : Segment) : Type 0 where
+  pub splits :
+      snapsOf (drop i (fifteenOf d)) (levels .up) (levels .down)
+      ≡ replicate (g .samples) (g .snap) ++ snapsOf (drop (i + 1) (fifteenOf d)) (levels .up) (levels .down)

@@ -1,0 +1,63 @@
+// The fifteen segments of a profile.
+use crate::snap::Levels;
+use planner::Plan;
+ghost use mathlib.Core.Path.{_≡_};
+ghost use Prim.Native.Nat.{_<_};
+ghost use Rattle.planner.specs.Durations.{p, q, r, s};
+ghost use Rattle.planner.specs.Facts.{Ordered};
+ghost use Rattle.motion.specs.Inner.SegmentSnaps.{IsDurations, NextSegment};
+
+// The lengths of the segments: the paper's p, q, r and s.
+pub(crate) struct Durations {
+    pub p: u64,
+    pub q: u64,
+    pub r: u64,
+    pub s: u64,
+}
+
+pub(crate) fn durations_of(plan: Plan) -> Durations
+    requires { ⌜ Ordered (plan .a) (plan .b) (plan .c) (plan .e) ⌝ }
+    ensures { λ d. ⌜ IsDurations (plan .a) (plan .b) (plan .c) (plan .e) d ⌝ }
+{
+    Durations {
+        p: plan.a,
+        q: plan.b - plan.a,
+        r: plan.c - plan.a - plan.b,
+        s: plan.e - plan.a - plan.b - plan.c,
+    }
+}
+
+// So many samples with one snap.
+pub(crate) struct Segment {
+    pub samples: u64,
+    pub snap: i64,
+}
+
+// Segment i, counted from 0.
+pub(crate) fn segment_at(d: Durations, levels: Levels, i: u64) -> Segment
+    requires { ⌜ i < 15 ⌝ }
+    ensures { λ g. ⌜ NextSegment d levels i g ⌝ }
+{
+    match i {
+        0 | 6 | 10 | 12 => Segment {
+            samples: d.p,
+            snap: levels.up,
+        },
+        2 | 4 | 8 | 14 => Segment {
+            samples: d.p,
+            snap: levels.down,
+        },
+        3 | 11 => Segment {
+            samples: d.r,
+            snap: 0,
+        },
+        7 => Segment {
+            samples: d.s,
+            snap: 0,
+        },
+        _ => Segment {
+            samples: d.q,
+            snap: 0,
+        },
+    }
+}
