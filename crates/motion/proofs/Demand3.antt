@@ -24,7 +24,10 @@ use Rattle.motion.specs.Demand3.{Claim}
 use Rattle.motion.proofs.CountLaws.{one-count}
 use Rattle.motion.proofs.EntryLaws.{Entered, passes}
 use Rattle.motion.proofs.FillLaws.{length-rows}
-use Rattle.motion.proofs.DirectedLaws as directed
+use Rattle.motion.proofs.SumsFromRest as sums
+use Rattle.motion.proofs.BoundRules as bounds
+use Rattle.motion.proofs.HalfCountRule as half
+use Rattle.motion.proofs.EndRule as end
 
 -- the values of an answer
 valuesOf : Result Values → Values
@@ -131,29 +134,29 @@ demand-3 X V₀ A₀ J₀ S₀ h sample promised old new rows room filled =
       at = λ k. valuesOf (sample k);
       answered = answered X V₀ A₀ J₀ S₀ h sample promised;
       table-position = λ k l. place X V₀ A₀ J₀ S₀ h old new rows room filled k l ∙ sym (at-position k l);
-      jerk-rest = at-jerk 0 zero-le ∙ directed.jerk-rest _ _ _ _ _ _;
-      acceleration-rest = at-acceleration 0 zero-le ∙ directed.acceleration-rest _ _ _ _ _ _;
-      velocity-rest = at-velocity 0 zero-le ∙ directed.velocity-rest _ _ _ _ _ _;
-      position-rest = at-position 0 zero-le ∙ directed.position-rest _ _ _ _ _ _;
-      jerk-sum = λ k l. rw (at-jerk (k + 1) (omega arith), at-jerk k (omega arith), at-snap k (omega arith)) (directed.jerk-sum _ _ _ _ _ _ k);
+      jerk-rest = at-jerk 0 zero-le ∙ sums.jerk-rest _ _ _ _ _ _;
+      acceleration-rest = at-acceleration 0 zero-le ∙ sums.acceleration-rest _ _ _ _ _ _;
+      velocity-rest = at-velocity 0 zero-le ∙ sums.velocity-rest _ _ _ _ _ _;
+      position-rest = at-position 0 zero-le ∙ sums.position-rest _ _ _ _ _ _;
+      jerk-sum = λ k l. rw (at-jerk (k + 1) (omega arith), at-jerk k (omega arith), at-snap k (omega arith)) (sums.jerk-sum _ _ _ _ _ _ k);
       acceleration-sum = λ k l.
-          rw (at-acceleration (k + 1) (omega arith), at-acceleration k (omega arith), at-jerk k (omega arith)) (directed.acceleration-sum _ _ _ _ _ _ k);
+          rw (at-acceleration (k + 1) (omega arith), at-acceleration k (omega arith), at-jerk k (omega arith)) (sums.acceleration-sum _ _ _ _ _ _ k);
       velocity-sum = λ k l.
-          rw (at-velocity (k + 1) (omega arith), at-velocity k (omega arith), at-acceleration k (omega arith)) (directed.velocity-sum _ _ _ _ _ _ k);
+          rw (at-velocity (k + 1) (omega arith), at-velocity k (omega arith), at-acceleration k (omega arith)) (sums.velocity-sum _ _ _ _ _ _ k);
       position-sum = λ k l.
-          rw (at-position (k + 1) (omega arith), at-position k (omega arith), at-velocity k (omega arith)) (directed.position-sum _ _ _ _ _ _ k);
-      snap-bound = λ k l. rw (at-snap k l) (directed.snap-bound f k);
-      jerk-bound = λ k l. rw (at-jerk k l) (directed.jerk-bound f k);
-      acceleration-bound = λ k l. rw (at-acceleration k l) (directed.acceleration-bound f k);
-      velocity-bound = λ k l. rw (at-velocity k l) (directed.velocity-bound f k);
-      forward = λ s k l. rw (at-velocity k l) (directed.forward f s k);
-      backward = λ s k l. rw (at-velocity k l) (directed.backward f s k);
-      never-past = λ s k l. rw (at-position k l, directed.lag-ahead f s k) (not-below-zero _);
-      below-half = λ s k l. rw (at-position k l, directed.lag-ahead f s k) (below _ _ (directed.lag-half f k));
-      never-past-back = λ s k l. rw (at-position k l, directed.lag-behind f s k) (not-below-zero _);
-      below-half-back = λ s k l. rw (at-position k l, directed.lag-behind f s k) (below _ _ (directed.lag-half f k));
-      jerk-end = at-jerk _ last ∙ directed.jerk-end f;
-      acceleration-end = at-acceleration _ last ∙ directed.acceleration-end f;
-      velocity-end = at-velocity _ last ∙ directed.velocity-end f;
-      count-end = count X V₀ A₀ J₀ S₀ h sample promised _ last ∙ one-count _ _ _ (promised _ last .count-is) (directed.count-end f);
+          rw (at-position (k + 1) (omega arith), at-position k (omega arith), at-velocity k (omega arith)) (sums.position-sum _ _ _ _ _ _ k);
+      snap-bound = λ k l. rw (at-snap k l) (bounds.snap-bound f k);
+      jerk-bound = λ k l. rw (at-jerk k l) (bounds.jerk-bound f k);
+      acceleration-bound = λ k l. rw (at-acceleration k l) (bounds.acceleration-bound f k);
+      velocity-bound = λ k l. rw (at-velocity k l) (bounds.velocity-bound f k);
+      forward = λ s k l. rw (at-velocity k l) (bounds.forward f s k);
+      backward = λ s k l. rw (at-velocity k l) (bounds.backward f s k);
+      never-past = λ s k l. rw (at-position k l, half.lag-ahead f s k) (not-below-zero _);
+      below-half = λ s k l. rw (at-position k l, half.lag-ahead f s k) (below _ _ (half.lag-half f k));
+      never-past-back = λ s k l. rw (at-position k l, half.lag-behind f s k) (not-below-zero _);
+      below-half-back = λ s k l. rw (at-position k l, half.lag-behind f s k) (below _ _ (half.lag-half f k));
+      jerk-end = at-jerk _ last ∙ end.jerk-end f;
+      acceleration-end = at-acceleration _ last ∙ end.acceleration-end f;
+      velocity-end = at-velocity _ last ∙ end.velocity-end f;
+      count-end = count X V₀ A₀ J₀ S₀ h sample promised _ last ∙ one-count _ _ _ (promised _ last .count-is) (end.count-end f);
     }

@@ -1,20 +1,28 @@
+-- Signed numbers, and the count of a position.
+pub mod IntegerLaws
 pub mod DirectionLaws
+pub mod CountLaws
+pub mod RoundingLaws
+-- The snap at a sample, the sums from rest, and that none leaves its range.
 pub mod InnerSampleLaws
+pub mod DirectedSnap
 pub mod StepLaws
+pub mod StateLaws
+-- A table of positions: runs of stores, the fifteen segments, and the rows that they leave.
 pub mod RunLaws
 pub mod SegmentLaws
 pub mod ListedLaws
 pub mod RowLaws
-pub mod StateLaws
-pub mod DirectedSnap
 pub mod TableLaws
+-- From a plan to what the entries promise.
 pub mod EntryLaws
 pub mod SamplingLaws
 pub mod FillLaws
-pub mod DirectedLaws
+pub mod AnswerLaws
+-- Demand 3, line by line, and whole.
+pub mod SumsFromRest
+pub mod BoundRules
+pub mod HalfCountRule
+pub mod EndRule
 pub mod Demand3
 pub mod RuleAnswers
-pub mod AnswerLaws
-pub mod IntegerLaws
-pub mod CountLaws
-pub mod RoundingLaws

@@ -32,15 +32,6 @@ pub(crate) fn levels_of(displacement: i64, size: u64) -> Levels
     }
 }
 
-pub(crate) fn exchanged(levels: Levels) -> Levels
-    ensures { λ r. ⌜ (r .up ≡ levels .down) × (r .down ≡ levels .up) ⌝ }
-{
-    Levels {
-        up: levels.down,
-        down: levels.up,
-    }
-}
-
 // A sample inside an interval, counted from the interval's start, and the levels there.
 struct IntervalSample {
     pub up: i64,

@@ -1,9 +1,10 @@
 -- `segment_at` meets its contract: each arm has the numbers of its segments, and the last has those that are left of fifteen.
 -- Assumes nothing.
-use mathlib.Core.Path.{_≡_}
+use mathlib.Core.Path.{_≡_, sym, subst}
 use mir.Syntax.{w64}
 use mir.Val.{toZ, ofZ}
 use mir.Facts.{toZ-ofZ}
+use Rattle.motion.specs.Inner.SegmentSnaps.{NextSegment}
 use Rattle.motion.proofs.SegmentLaws.{others, with-plus, with-minus, lasting-q, lasting-r, lasting-s}
 use Rattle.motion.proofs.segments.segment_at.Statement.{statement}
 use Rattle.motion.proofs.segments.segment_at.Tie as tie
@@ -16,10 +17,14 @@ down : (c : tie.After-struct-told2) → toZ w64 (ofZ w64 (c .before .before .arg
 down c = toZ-ofZ {w = w64} {z = c .before .before .args .levels .down} (record { sfits = c .struct-told2 .given .1 .0 .1 })
 
 returns : tie.Need-returns
-returns c = rw (up c) (with-plus _ _ _ (c .before .match .keys1))
+returns c =
+    let a = c .before .before .args in
+    subst (λ x. NextSegment (a .d) (a .levels) (a .i) (record { samples = a .d .p; snap = x })) (sym (up c)) (with-plus _ _ _ (c .before .match .keys1))
 
 returns-2 : tie.Need-returns-2
-returns-2 c = rw (down c) (with-minus _ _ _ (c .before .match .keys2))
+returns-2 c =
+    let a = c .before .before .args in
+    subst (λ x. NextSegment (a .d) (a .levels) (a .i) (record { samples = a .d .p; snap = x })) (sym (down c)) (with-minus _ _ _ (c .before .match .keys2))
 
 returns-3 : tie.Need-returns-3
 returns-3 c = lasting-r _ _ _ (c .match .keys3)

@@ -1,8 +1,10 @@
 -- `inner_sample` meets its contract. Assumes nothing.
-use mathlib.Core.Path.{_≡_}
+use mathlib.Core.Path.{_≡_, sym, subst}
+use Prim.Native.Nat.{_-_}
 use mir.Syntax.{w64}
 use mir.Val.{toZ, ofZ}
 use mir.Facts.{toZ-ofZ}
+use Rattle.motion.specs.Inner.InnerSamples.{SameSnap}
 use Rattle.motion.proofs.InnerSampleLaws.{before, past}
 use Rattle.motion.proofs.snap.inner_sample.Statement.{statement}
 use Rattle.motion.proofs.snap.inner_sample.Tie as tie
@@ -18,7 +20,12 @@ returns : tie.Need-returns
 returns c = before _ _ _ _ (c .if1 .taken)
 
 returns-2 : tie.Need-returns-2
-returns-2 c = rw (up c, down c) (past _ _ _ _ (c .before .before .if1 .left))
+returns-2 c =
+    let a = c .before .before .before .before .args in
+    let k = a .outer .sample - a .width in
+    subst (λ x. SameSnap (a .width) (a .outer .up) (a .outer .down) (a .outer .sample) x (toZ w64 (ofZ w64 (a .outer .up))) k) (sym (down c))
+    (subst (λ x. SameSnap (a .width) (a .outer .up) (a .outer .down) (a .outer .sample) (a .outer .down) x k) (sym (up c))
+    (past _ _ _ _ (c .before .before .if1 .left)))
 
 pub inner-sample-spec : {M : Type 1} → statement M
 inner-sample-spec = tie.close (tie.spec returns returns-2)

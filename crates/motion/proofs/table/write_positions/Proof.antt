@@ -1,6 +1,10 @@
 -- `write_positions` meets its contract. Assumes nothing.
+use mathlib.Core.Path.{sym, subst}
+use Prim.Native.Nat.{ℕ, _+_}
 use mir.Syntax.{w64}
 use mir.Facts.{toZ-ofZ}
+use Rattle.motion.specs.Result.{given}
+use Rattle.motion.specs.Inner.Planned.{WritesPositions}
 use Rattle.motion.proofs.FillLaws.{short, written}
 use borrow.Author.Needs.{needs}
 use Rattle.motion.proofs.table.write_positions.Statement.{statement}
@@ -25,7 +29,10 @@ returns-2 : tie.Need-returns-2
 returns-2 c =
     let d = c .before .before .before in
     let back = toZ-ofZ {w = w64} {z = d .before .before .args .displacement} (d .before .before .fits .displacement) in
-    rw (d .before .samples-in-plan .ensures)
+    let a = d .before .before .args in
+    subst
+    (λ (n : ℕ). WritesPositions (a .displacement) (a .plan .a) (a .plan .b) (a .plan .c) (a .plan .e) (a .plan .snap) (a .table .now) (given (n + 1)) (c .before .fill-table .last .0))
+    (sym (d .before .samples-in-plan .ensures))
     (written _ _ _ _ _ _ _ (rw (d .before .samples-in-plan .ensures) at (d .if1 .left)) (rw back at (c .before .fill-table .ensures)))
 
 pub write-positions-spec : {M : Type 1} → statement M

@@ -1,0 +1,50 @@
+-- Document 01, demand 3, "The end", for the numbers of a plan. Assumes nothing.
+use mathlib.Core.Path.{_≡_, ap, _∙_}
+use Prim.Native.Nat.{ℕ, suc, _+_, _-_, _*_, _<_, _^_}
+use native.Mathlib.Nat.{le-trans, le-refl}
+use native.Mathlib.Omega.{arith}
+use lib.IntN.{ℤ, pos, negsuc}
+use Rattle.planner.specs.Quantities.{distance}
+use Rattle.planner.specs.Durations.{N, P}
+use Rattle.planner.specs.Facts.{PlanFacts}
+use Rattle.profile.specs.Facts.{AtEnd}
+use Rattle.profile.proofs.FourthOrder.{fourth-order-end}
+use Rattle.motion.specs.Direction as direction
+use Rattle.motion.specs.Direction.{along}
+use Rattle.motion.specs.Count.{IsCount}
+use Rattle.motion.proofs.DirectionLaws.{along-zero}
+use Rattle.motion.proofs.CountLaws.{mirrored, count-positive}
+
+-- a position that lacks less than half a count of X counts
+near-end : (X : ℤ) (n lack : ℕ) → n + lack ≡ distance X → lack < 2 ^ 39 → IsCount (along X (pos n)) X
+unfolding along distance
+near-end (pos i) n lack h l = count-positive n i (omega arith) (λ t. omega arith)
+near-end (negsuc i) n lack h l = mirrored (pos n) (pos (suc i)) (count-positive n (suc i) (omega arith) (λ t. omega arith))
+
+module _ {X : ℤ} {V₀ A₀ J₀ S₀ a b c e D short : ℕ} (f : PlanFacts X V₀ A₀ J₀ S₀ a b c e D short) where
+  abbrev whole : ℕ
+  whole = P a b c e
+
+  -- at the end all but the position are 0
+  at-end : AtEnd a b c e D (N a b c e)
+  at-end = fourth-order-end a b c e (f .ordered .a-b) (f .ordered .ab-c) (f .ordered .abc-e) D (N a b c e) (le-refl _)
+
+  pub jerk-end : direction.jerk X a b c e D (N a b c e) ≡ pos 0
+  unfolding direction.jerk
+  jerk-end = ap (along X) (at-end .jerk-rests) ∙ along-zero X
+
+  pub acceleration-end : direction.acceleration X a b c e D (N a b c e) ≡ pos 0
+  unfolding direction.acceleration
+  acceleration-end = ap (along X) (at-end .acceleration-rests) ∙ along-zero X
+
+  pub velocity-end : direction.velocity X a b c e D (N a b c e) ≡ pos 0
+  unfolding direction.velocity
+  velocity-end = ap (along X) (at-end .velocity-rests) ∙ along-zero X
+
+  position-end : direction.position X a b c e D (N a b c e) ≡ along X (pos (D * whole))
+  unfolding direction.position
+  position-end = ap (along X) (at-end .position-full)
+
+  -- and its count is X
+  pub count-end : IsCount (direction.position X a b c e D (N a b c e)) X
+  count-end = rw position-end (near-end X (D * whole) short (f .whole) (le-trans (f .shortfall-below) (f .product)))
