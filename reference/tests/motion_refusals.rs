@@ -9,16 +9,6 @@ const LARGEST: u64 = 1 << 50;
 type Entry = fn(&Move, &mut [i64]) -> TableAnswer;
 const TABLES: [Entry; 2] = [position_table, reference_table];
 
-fn motion(displacement: i64, [velocity, acceleration, jerk, snap]: [u64; 4]) -> Move {
-    Move {
-        displacement,
-        velocity,
-        acceleration,
-        jerk,
-        snap,
-    }
-}
-
 /// Accepted moves of both directions with their N.
 fn accepted() -> Vec<(Move, u64)> {
     let rows = [
@@ -28,31 +18,31 @@ fn accepted() -> Vec<(Move, u64)> {
         (4092, [G, G, G, G], 4096),
         (1, [1 << 29, 1 << 19, 1 << 10, 2], 4096),
     ];
-    let both = |(x, bounds, n)| [(motion(x, bounds), n), (motion(-x, bounds), n)];
+    let both = |(x, bounds, n)| [(Move::new(x, bounds), n), (Move::new(-x, bounds), n)];
     rows.into_iter().flat_map(both).collect()
 }
 
 /// Refused moves with their numbers, several numbers applying to some.
 fn refused() -> Vec<(Move, u8)> {
     vec![
-        (motion(0, [G; 4]), 1),
-        (motion(0, [0; 4]), 1),
-        (motion(1_048_577, [G; 4]), 2),
-        (motion(-1_048_577, [u64::MAX; 4]), 2),
-        (motion(i64::MIN, [G; 4]), 2),
-        (motion(i64::MAX, [0; 4]), 2),
-        (motion(8, [0, G, G, G]), 3),
-        (motion(-8, [0; 4]), 3),
-        (motion(8, [u64::MAX; 4]), 3),
-        (motion(8, [G, LARGEST + 1, G, G]), 4),
-        (motion(8, [G, 0, 0, 0]), 4),
-        (motion(-8, [G, G, 0, G]), 5),
-        (motion(8, [G, G, u64::MAX, 0]), 5),
-        (motion(8, [G, G, G, 0]), 6),
-        (motion(-8, [G, G, G, LARGEST + 1]), 6),
-        (motion(1, [1; 4]), 7),
-        (motion(4093, [G; 4]), 7),
-        (motion(-4093, [G; 4]), 7),
+        (Move::new(0, [G; 4]), 1),
+        (Move::new(0, [0; 4]), 1),
+        (Move::new(1_048_577, [G; 4]), 2),
+        (Move::new(-1_048_577, [u64::MAX; 4]), 2),
+        (Move::new(i64::MIN, [G; 4]), 2),
+        (Move::new(i64::MAX, [0; 4]), 2),
+        (Move::new(8, [0, G, G, G]), 3),
+        (Move::new(-8, [0; 4]), 3),
+        (Move::new(8, [u64::MAX; 4]), 3),
+        (Move::new(8, [G, LARGEST + 1, G, G]), 4),
+        (Move::new(8, [G, 0, 0, 0]), 4),
+        (Move::new(-8, [G, G, 0, G]), 5),
+        (Move::new(8, [G, G, u64::MAX, 0]), 5),
+        (Move::new(8, [G, G, G, 0]), 6),
+        (Move::new(-8, [G, G, G, LARGEST + 1]), 6),
+        (Move::new(1, [1; 4]), 7),
+        (Move::new(4093, [G; 4]), 7),
+        (Move::new(-4093, [G; 4]), 7),
     ]
 }
 

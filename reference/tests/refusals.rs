@@ -5,18 +5,8 @@ use reference::planner::{plan, Answer, Move};
 const G: u64 = 1 << 40;
 const LARGEST: u64 = 1 << 50;
 
-fn motion(displacement: i64, [velocity, acceleration, jerk, snap]: [u64; 4]) -> Move {
-    Move {
-        displacement,
-        velocity,
-        acceleration,
-        jerk,
-        snap,
-    }
-}
-
 fn refusal(displacement: i64, bounds: [u64; 4]) -> Option<u8> {
-    match plan(&motion(displacement, bounds)) {
+    match plan(&Move::new(displacement, bounds)) {
         Answer::Refused(number) => Some(number),
         Answer::Planned { .. } => None,
     }
@@ -74,13 +64,13 @@ fn the_displacement_at_its_edges() {
 #[test]
 fn the_longest_duration() {
     for sign in [1, -1] {
-        let longest = plan(&motion(sign * 4092, [G; 4]));
+        let longest = plan(&Move::new(sign * 4092, [G; 4]));
         assert_eq!(longest.duration(), Some(4096));
         assert_eq!(refusal(sign * 4093, [G; 4]), Some(7));
     }
     // Here every property holds with equality at the longest duration.
     let slowest = [1 << 29, 1 << 19, 1 << 10, 2];
-    assert_eq!(plan(&motion(1, slowest)).duration(), Some(4096));
+    assert_eq!(plan(&Move::new(1, slowest)).duration(), Some(4096));
     for place in 0..4 {
         let mut bounds = slowest;
         bounds[place] -= 1;

@@ -29,6 +29,10 @@ module _ {X : ℤ} {V₀ A₀ J₀ S₀ a b c e D short : ℕ} (f : PlanFacts X 
   at-end : AtEnd a b c e D (N a b c e)
   at-end = fourth-order-end a b c e (f .ordered .a-b) (f .ordered .ab-c) (f .ordered .abc-e) D (N a b c e) (le-refl _)
 
+  pub snap-end : direction.snap X a b c e D (N a b c e) ≡ pos 0
+  unfolding direction.snap
+  snap-end = ap (along X) (at-end .snap-rests) ∙ along-zero X
+
   pub jerk-end : direction.jerk X a b c e D (N a b c e) ≡ pos 0
   unfolding direction.jerk
   jerk-end = ap (along X) (at-end .jerk-rests) ∙ along-zero X

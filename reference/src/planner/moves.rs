@@ -20,6 +20,17 @@ pub struct Move {
 }
 
 impl Move {
+    /// The move of X and V, A, J, S.
+    pub fn new(displacement: i64, [velocity, acceleration, jerk, snap]: [u64; 4]) -> Move {
+        Move {
+            displacement,
+            velocity,
+            acceleration,
+            jerk,
+            snap,
+        }
+    }
+
     /// The way in grains (W in the paper): G times the size of X.
     pub fn w(&self) -> u128 {
         COUNT_GRAINS * u128::from(self.displacement.unsigned_abs())
