@@ -33,7 +33,7 @@ pub(crate) struct Segment {
     pub snap: i64,
 }
 
-// Segment i, counted from 0.
+// Segment i, from 0 to 14. They last p q p r p q p s p q p r p q p samples, with the signs + 0 − 0 − 0 + 0 − 0 + 0 + 0 −.
 pub(crate) fn segment_at(d: Durations, levels: Levels, i: u64) -> Segment
     requires { ⌜ i < 15 ⌝ }
     ensures { λ g. ⌜ NextSegment d levels i g ⌝ }

@@ -28,7 +28,7 @@ fn fill_table(table: &mut [i64], displacement: i64, plan: Plan)
         state = store_segment(table, segment.samples, segment.snap, state);
         i += 1;
     }
-    let last = store_segment(table, 1, 0, state);
+    store_segment(table, 1, 0, state);
 }
 
 // The rows of a plan where the table has room for them, else refusal 8.
