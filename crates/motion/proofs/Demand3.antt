@@ -1,6 +1,6 @@
 -- Demand 3: the theorem `demand-3` proves the claim of specs/Demand3.antt. It rests on the rules (planner), on the laws of the profile
 -- (profile) and on the promises of the entries alone. Assumes nothing.
-use mathlib.Core.List.{List}
+use mathlib.Core.List.{List, _++_}
 use mathlib.Core.Path.{_≡_, sym, ap, _∙_}
 use Prim.Native.Nat.{ℕ, zero, suc, _+_, _≤_, _<_, zero-le}
 use native.Mathlib.Nat.{le-refl}
@@ -8,7 +8,7 @@ use native.Mathlib.Omega.{arith}
 use borrow.Author.Tests.{le-ltb}
 use lib.Dec.{ltb, le→leb, lt→ltb}
 use lib.IntN.{ℤ, pos}
-use lib.ListN.{length, getD, List·getD-append}
+use lib.ListN.{length, getD, drop, length-append, List·getD-append}
 use lib.Signed.{_≤ℤ_, _<ℤ_}
 use Rattle.planner.specs.Quantities.{distance}
 use Rattle.planner.specs.Intervals as rule
@@ -69,17 +69,28 @@ module _ (X : ℤ) (V₀ A₀ J₀ S₀ : ℕ) (h : Accepted X V₀ A₀ J₀ S�
   sampled {k} l p = p .outcome-is ∙ passes plan 9 _ _ (le-ltb N k l)
 
   -- what the table holds
-  place : (old new : List ℤ) (rows : Result ℕ) → N + 1 ≤ length old → FillsPositions X V₀ A₀ J₀ S₀ old rows new → (k : ℕ) → k ≤ N → getD new k (pos 0) ≡ value.position X V₀ A₀ J₀ S₀ k
-  unfolding FillsPositions tableResult tableOf
-  place old new rows l p k m =
-      let row = value.position X V₀ A₀ J₀ S₀ in
-      let filled = passes plan 8 (ltb (length old) (N + 1)) (N + 1) (le-ltb (length old) (N + 1) l) in
-      let new-is = p .table-is ∙ ap (λ (r : Result ℕ). tableOf r (rowsFrom row 0 (N + 1)) old) filled in
-      let inside : k < length (rowsFrom row 0 (N + 1)) = omega (arith, length-rows row 0 (N + 1)) in
-      ap (λ (t : List ℤ). getD t k (pos 0)) new-is
-      ∙ List·getD-append (rowsFrom row 0 (N + 1)) _ (pos 0) k inside
-      ∙ row-at row 0 (N + 1) k (omega arith)
-      ∙ ap row (omega arith)
+  module _ (old new : List ℤ) (rows : Result ℕ) (room : N + 1 ≤ length old) (filled : FillsPositions X V₀ A₀ J₀ S₀ old rows new) where
+    abbrev row : ℕ → ℤ
+    row = value.position X V₀ A₀ J₀ S₀
+
+    table-is : new ≡ rowsFrom row 0 (N + 1) ++ drop (length (rowsFrom row 0 (N + 1))) old
+    unfolding FillsPositions tableResult tableOf
+    table-is =
+        filled .table-is
+        ∙ ap (λ (r : Result ℕ). tableOf r (rowsFrom row 0 (N + 1)) old)
+        (passes plan 8 (ltb (length old) (N + 1)) (N + 1) (le-ltb (length old) (N + 1) room))
+
+    places : N < length new
+    places =
+        omega
+        (arith, ap length table-is, length-append (rowsFrom row 0 (N + 1)) (drop (length (rowsFrom row 0 (N + 1))) old), length-rows row 0 (N + 1))
+
+    place : (k : ℕ) → k ≤ N → getD new k (pos 0) ≡ row k
+    place k l =
+        ap (λ (t : List ℤ). getD t k (pos 0)) table-is
+        ∙ List·getD-append (rowsFrom row 0 (N + 1)) _ (pos 0) k (omega (arith, length-rows row 0 (N + 1)))
+        ∙ row-at row 0 (N + 1) k (omega arith)
+        ∙ ap row (omega arith)
 
   module _ (sample : ℕ → Result Values) (promised : (k : ℕ) → k ≤ N → Samples X V₀ A₀ J₀ S₀ k (sample k)) where
     values : (k : ℕ) (l : k ≤ N) → valuesOf (sample k) ≡ valuesWith X V₀ A₀ J₀ S₀ k (promised k l .count)
@@ -133,6 +144,7 @@ demand-3 X V₀ A₀ J₀ S₀ h sample promised old new rows room filled =
     record {
       at = λ k. valuesOf (sample k);
       answered = answered X V₀ A₀ J₀ S₀ h sample promised;
+      table-places = places X V₀ A₀ J₀ S₀ h old new rows room filled;
       table-position = λ k l. place X V₀ A₀ J₀ S₀ h old new rows room filled k l ∙ sym (at-position k l);
       jerk-rest = at-jerk 0 zero-le ∙ sums.jerk-rest _ _ _ _ _ _;
       acceleration-rest = at-acceleration 0 zero-le ∙ sums.acceleration-rest _ _ _ _ _ _;

@@ -30,7 +30,8 @@ module _ (X : ℤ) (V₀ A₀ J₀ S₀ : ℕ) where
     -- The five values and the count that the entry gives for each k from 0 to N.
     pub at : ℕ → Values
     pub answered : (k : ℕ) → k ≤ N → sample k ≡ given (at k)
-    -- The table's place k is the entry's position at k.
+    -- The table has places 0 to N, and its place k is the entry's position at k.
+    pub table-places : N < length table
     pub table-position : (k : ℕ) → k ≤ N → getD table k (pos 0) ≡ at k .position
     -- Sums from rest.
     pub jerk-rest : at 0 .jerk ≡ pos 0
