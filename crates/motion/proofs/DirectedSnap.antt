@@ -1,6 +1,6 @@
 -- The snap by the widths, with the levels of the direction, is the profile's. Assumes nothing.
 use mathlib.Core.List.{[], _∷_}
-use mathlib.Core.Path.{_≡_, sym, ap, _∙_, fun-ext}
+use mathlib.Core.Path.{_≡_, sym, ap, ap₂, _∙_, fun-ext}
 use Prim.Native.Nat.{ℕ}
 use lib.IntN.{ℤ, pos, negsuc, negℤ}
 use Rattle.planner.specs.Durations.{p, q, r, s}
@@ -12,6 +12,8 @@ use Rattle.profile.proofs.SwitchedLaws.{snap-by-negated, snap-by-widths}
 use Rattle.profile.proofs.FourthOrder.{spread, fifteen}
 use Rattle.motion.specs.Direction as direction
 use Rattle.motion.specs.Direction.{along}
+use Rattle.motion.specs.declared.snap.Levels.{Levels}
+use Rattle.motion.specs.Inner.SnapLevels.{AreLevels}
 
 module _ {a b c e : ℕ} (o : Ordered a b c e) (D k : ℕ) where
   forward : snapBy a (e ∷ c ∷ b ∷ []) (pos D) (negℤ (pos D)) k ≡ profile.snap (p a) (q a b) (r a b c) (s a b c e) D k
@@ -25,5 +27,10 @@ unfolding along direction.snap
 at-sample (pos m) o D k = forward o D k
 at-sample (negsuc m) {a} {b} {c} {e} o D k = snap-by-negated a (e ∷ c ∷ b ∷ []) (pos D) (negℤ (pos D)) k ∙ ap negℤ (forward o D k)
 
-pub directed-snap : (X : ℤ) {a b c e : ℕ} → Ordered a b c e → (D : ℕ) → snapBy a (e ∷ c ∷ b ∷ []) (along X (pos D)) (negℤ (along X (pos D))) ≡ direction.snap X a b c e D
-directed-snap X o D = fun-ext (at-sample X o D)
+pub directed-snap :
+    {X : ℤ} {a b c e D : ℕ} {levels : Levels}
+    → Ordered a b c e
+    → AreLevels X D levels
+    → snapBy a (e ∷ c ∷ b ∷ []) (levels .up) (levels .down) ≡ direction.snap X a b c e D
+directed-snap {X} {a} {b} {c} {e} {D} o l =
+    ap₂ (snapBy a (e ∷ c ∷ b ∷ [])) (l .up-is) (l .down-is) ∙ fun-ext (at-sample X o D)

@@ -15,6 +15,7 @@ use Rattle.planner.specs.Facts.{PlanFacts}
 use Rattle.planner.specs.Answer.{outcome}
 use Rattle.planner.specs.Accepted.{IsPlanned}
 use Rattle.planner.specs.declared.Refusal.{Refusal}
+use Rattle.planner.specs.declared.Move.{Move}
 use Rattle.planner.specs.declared.Plan.{Plan}
 use Rattle.planner.specs.declared.PlanAnswer.{PlanAnswer}
 use Rattle.planner.specs.declared.PlanAnswer.the-variants.{Planned, Refused}
@@ -32,6 +33,11 @@ not-planned q p = subst (λ (r : PlanAnswer). IsPlanned (outcome r)) q p
 pub record Entered (X : ℤ) (V₀ A₀ J₀ S₀ a b c e D short : ℕ) : Type 0 where
   pub facts : PlanFacts X V₀ A₀ J₀ S₀ a b c e D short
   pub outcome-is : outcomeOf X V₀ A₀ J₀ S₀ ≡ planned a b c e D short
+
+-- the move m was planned as x
+abbrev pub PlannedAs : Move → Plan → Type 0
+PlannedAs m x =
+    Entered (m .displacement) (m .velocity) (m .acceleration) (m .jerk) (m .snap) (x .a) (x .b) (x .c) (x .e) (x .snap) (x .shortfall)
 
 module _ {X : ℤ} {V₀ A₀ J₀ S₀ : ℕ} where
   pub entered :

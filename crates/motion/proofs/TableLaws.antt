@@ -3,7 +3,7 @@ use mathlib.Core.List.{List, [], _∷_, _++_, append-assoc}
 use mathlib.Core.Path.{_≡_, refl, sym, ap, _∙_, fun-ext}
 use Prim.Native.Nat.{ℕ, _+_, _≤_}
 use native.Mathlib.Omega.{arith}
-use lib.IntN.{ℤ, pos, negℤ}
+use lib.IntN.{ℤ, pos}
 use lib.ListN.{length, length-append, drop, replicate}
 use Rattle.planner.specs.Durations.{p, q, r, s, N}
 use Rattle.profile.specs.Segments.{Segment, segments}
@@ -22,6 +22,7 @@ use Rattle.motion.specs.declared.snap.Levels.{Levels}
 use Rattle.motion.specs.declared.state.State.{State}
 use Rattle.motion.specs.Inner.Steps.{rest}
 use Rattle.motion.specs.Inner.Runs.{CanRun, Ran}
+use Rattle.motion.specs.Inner.SnapLevels.{AreLevels}
 use Rattle.motion.specs.Inner.SegmentSnaps.{snapsOf, IsDurations, fifteenOf, NextSegment}
 use Rattle.motion.specs.Inner.Planned.{Playable, PositionsIn}
 use Rattle.motion.proofs.DirectionLaws.{along-zero}
@@ -90,9 +91,8 @@ module _ (d : Durations) (levels : Levels) where
   last-row q = ap todo q
 
   pub whole-run :
-      (X : ℤ) {a b c e D : ℕ} (h : Playable a b c e D)
+      {X : ℤ} {a b c e D : ℕ} (h : Playable a b c e D)
       → IsDurations a b c e d
-      → levels .up ≡ along X (pos D)
-      → levels .down ≡ negℤ (along X (pos D))
+      → AreLevels X D levels
       → todo 0 ≡ run X a b c e D h
-  whole-run X {a} {b} {c} {e} {D} h i u v = rw (u, v, i .p-is, i .q-is, i .r-is, i .s-is) refl
+  whole-run {X} {a} {b} {c} {e} {D} h i l = rw (l .up-is, l .down-is, i .p-is, i .q-is, i .r-is, i .s-is) refl

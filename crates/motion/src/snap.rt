@@ -3,9 +3,8 @@ use planner::Plan;
 ghost use mathlib.Core.List.{[], _∷_};
 ghost use mathlib.Core.Path.{_≡_};
 ghost use Prim.Native.Nat.{_≤_, _^_};
-ghost use lib.IntN.{pos, negℤ};
 ghost use Rattle.profile.specs.Widths.{snapBy};
-ghost use Rattle.motion.specs.Direction.{along};
+ghost use Rattle.motion.specs.Inner.SnapLevels.{AreLevels};
 ghost use Rattle.motion.specs.Inner.InnerSamples.{SameSnap};
 
 // The snap in the segments with + and in those with −.
@@ -17,7 +16,7 @@ pub(crate) struct Levels {
 // D in the direction of the displacement, and against it.
 pub(crate) fn levels_of(displacement: i64, size: u64) -> Levels
     requires { ⌜ size ≤ 2 ^ 60 ⌝ }
-    ensures { λ r. ⌜ (r .up ≡ along displacement (pos size)) × (r .down ≡ negℤ (along displacement (pos size))) ⌝ }
+    ensures { λ r. ⌜ AreLevels displacement size r ⌝ }
 {
     let snap = size as i64;
     if displacement < 0 {

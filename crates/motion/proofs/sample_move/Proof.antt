@@ -2,7 +2,7 @@
 use borrow.Author.Needs.{needs}
 use mir.Syntax.{w64}
 use mir.Facts.{toZ-ofZ}
-use Rattle.motion.proofs.EntryLaws.{Entered, entered, not-planned, playable}
+use Rattle.motion.proofs.EntryLaws.{PlannedAs, entered, not-planned, playable}
 use Rattle.motion.proofs.SamplingLaws.{sample-refused, sample-past, sample-given}
 use Rattle.motion.proofs.sample_move.Statement.{statement}
 use Rattle.motion.proofs.sample_move.Tie as tie
@@ -23,10 +23,7 @@ returns : tie.Need-returns
 returns c = sample-refused (c .before .before .before .plan-move .ensures) (c .unplanned .ensures)
 
 -- the plan that was found
-plan :
-    (c : tie.After-answer)
-    → Entered (c .before .before .before .args .m .displacement) (c .before .before .before .args .m .velocity) (c .before .before .before .args .m .acceleration) (c .before .before .before .args .m .jerk) (c .before .before .before .args .m .snap)
-    (c .answer .given .0 .0 .a) (c .answer .given .0 .0 .b) (c .answer .given .0 .0 .c) (c .answer .given .0 .0 .e) (c .answer .given .0 .0 .snap) (c .answer .given .0 .0 .shortfall)
+plan : (c : tie.After-answer) → PlannedAs (c .before .before .before .args .m) (c .answer .given .0 .0)
 plan c = entered (c .before .before .plan-move .ensures) (c .answer .given .1)
 
 samples-in-plan-requires : tie.Need-samples-in-plan-requires

@@ -39,23 +39,27 @@ rem-rest c = rw (toZ-ofZ (c .fits .position)) (omega arith, quotient-fits (c .ar
 
 add-result : tie.Need-add-result
 add-result c =
-    rw (whole (c .before .args .position) (c .before .fits .position))
-    (count-fits (c .before .args .position) _ (c .before .fits .position) (above c))
+    let x = c .before .args .position in
+    let h = c .before .fits .position in
+    rw (whole x h) (count-fits x _ h (above c))
 
 returns : tie.Need-returns
 returns c =
-    rw (whole (c .before .args .position) (c .before .fits .position), toZ-ofZ (count-fits (c .before .args .position) _ (c .before .fits .position) (above c)))
-    (above c)
+    let x = c .before .args .position in
+    let h = c .before .fits .position in
+    rw (whole x h, toZ-ofZ (count-fits x _ h (above c))) (above c)
 
 sub-result : tie.Need-sub-result
 sub-result c =
-    rw (whole (c .before .before .args .position) (c .before .before .fits .position))
-    (count-fits (c .before .before .args .position) _ (c .before .before .fits .position) (below c))
+    let x = c .before .before .args .position in
+    let h = c .before .before .fits .position in
+    rw (whole x h) (count-fits x _ h (below c))
 
 returns-2 : tie.Need-returns-2
 returns-2 c =
-    rw (whole (c .before .before .args .position) (c .before .before .fits .position), toZ-ofZ (count-fits (c .before .before .args .position) _ (c .before .before .fits .position) (below c)))
-    (below c)
+    let x = c .before .before .args .position in
+    let h = c .before .before .fits .position in
+    rw (whole x h, toZ-ofZ (count-fits x _ h (below c))) (below c)
 
 returns-3 : tie.Need-returns-3
 returns-3 c =

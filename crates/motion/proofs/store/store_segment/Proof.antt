@@ -1,12 +1,14 @@
 -- `store_segment` meets its contract. The loop's invariant: the run that is left comes to the same as the run asked for. Assumes nothing.
-use mathlib.Core.List.{_∷_}
+use mathlib.Core.List.{List, _∷_}
 use mathlib.Core.Path.{subst}
 use Prim.Native.Nat.{_-_, _<_}
 use native.Mathlib.Omega.{arith}
 use mir.Syntax.{w64}
 use mir.Val.{toZ, ofZ}
 use mir.Facts.{toZ-ofZ}
+use lib.IntN.{ℤ}
 use lib.ListN.{replicate, length}
+use Rattle.motion.specs.declared.state.State.{State}
 use Rattle.motion.specs.Inner.Runs.{Ran}
 use Rattle.motion.proofs.RunLaws.{Left, all-left, one-done, one-of, first-fits, none-of, ran-length}
 use Rattle.motion.proofs.store.store_segment.Statement.{statement}
@@ -22,11 +24,17 @@ abbrev μ-loop : tie.MeasureT-loop
 loop-holds : tie.Need-loop-holds Inv-loop μ-loop
 loop-holds c = all-left (rw (toZ-ofZ (c .fits .snap)) (c .pre))
 
--- there is a snap left to play
+-- the snap as it is passed on, and the whole run
+abbrev snap : tie.Start Inv-loop μ-loop → ℤ
+snap d = toZ w64 (ofZ w64 (d .args .snap))
+
+abbrev Remains : tie.Start Inv-loop μ-loop → List ℤ → State → List ℤ → Type 0
+Remains d xs state table = Left xs state table (replicate (d .args .count) (snap d)) (d .args .state) (d .args .table .now)
+
+-- there is a snap left
 begun :
     (c : tie.In-loop Inv-loop μ-loop)
-    → Left (toZ w64 (ofZ w64 (c .before .before .args .snap)) ∷ replicate (c .before .loop .left - 1) (toZ w64 (ofZ w64 (c .before .before .args .snap)))) (c .before .loop .current) (c .before .loop .table)
-    (replicate (c .before .before .args .count) (toZ w64 (ofZ w64 (c .before .before .args .snap)))) (c .before .before .args .state) (c .before .before .args .table .now)
+    → Remains (c .before .before) (snap (c .before .before) ∷ replicate (c .before .loop .left - 1) (snap (c .before .before))) (c .before .loop .current) (c .before .loop .table)
 begun c = one-of _ _ (c .loop-test .taken) (c .before .loop .inv)
 
 place : (c : tie.In-loop Inv-loop μ-loop) → c .before .loop .current .sample < length (c .before .loop .table)
@@ -52,13 +60,11 @@ loop-again c =
     rw (c .step .ensures, toZ-ofZ {w = w64} {z = c .before .before .before .loop .current .position} (record { sfits = c .before .struct-told .given .1 .1 .1 .1 .0 .1 }))
     (one-done (begun (c .before .before)))
 
-ran :
-    (c : tie.After-loop Inv-loop μ-loop)
-    → Ran (replicate (c .before .before .args .count) (c .before .before .args .snap)) (c .before .before .args .state) (c .before .before .args .table .now) (c .before .loop .table) (c .before .loop .current)
-ran c =
-    subst
-    (λ x. Ran (replicate (c .before .before .args .count) x) (c .before .before .args .state) (c .before .before .args .table .now) (c .before .loop .table) (c .before .loop .current))
-    (toZ-ofZ (c .before .before .fits .snap)) (none-of _ _ (c .loop-test .left) (c .before .loop .inv))
+abbrev Made : tie.After-loop Inv-loop μ-loop → ℤ → Type 0
+Made c x = Ran (replicate (c .before .before .args .count) x) (c .before .before .args .state) (c .before .before .args .table .now) (c .before .loop .table) (c .before .loop .current)
+
+ran : (c : tie.After-loop Inv-loop μ-loop) → Made c (c .before .before .args .snap)
+ran c = subst (Made c) (toZ-ofZ (c .before .before .fits .snap)) (none-of _ _ (c .loop-test .left) (c .before .loop .inv))
 
 same-length : tie.Need-same-length Inv-loop μ-loop
 same-length c = ran-length (ran c)

@@ -37,7 +37,8 @@ snap-at-requires c κs = tt
 -- the snap that was found, as it is passed on
 snap-read :
     (c : tie.After-snap-at Inv-loop μ-loop)
-    → toZ w64 (ofZ w64 (c .snap-at .result)) ≡ snap (c .before .before .before .before .before .args .plan) (c .before .before .before .before .before .args .levels) (c .before .before .before .loop .state .sample)
+    → let d = c .before .before .before in
+    toZ w64 (ofZ w64 (c .snap-at .result)) ≡ snap (d .before .before .args .plan) (d .before .before .args .levels) (d .loop .state .sample)
 snap-read c = toZ-ofZ {w = w64} {z = c .snap-at .result} (record { sfits = c .snap-at .ok }) ∙ c .snap-at .ensures
 
 step-requires : tie.Need-step-requires Inv-loop μ-loop

@@ -1,15 +1,16 @@
 -- `fill_table` meets its contract. The loop's invariant: the segments that are left come to the same as all of them. Assumes nothing.
-use mathlib.Core.List.{[], _∷_, _++_}
-use mathlib.Core.Path.{_≡_, ap, _∙_}
-use Prim.Native.Nat.{_+_, _-_, _≤_}
+use mathlib.Core.List.{List, [], _∷_, _++_}
+use mathlib.Core.Path.{_≡_, subst}
+use Prim.Native.Nat.{ℕ, _+_, _-_, _≤_}
 use native.Mathlib.Nat.{le-antisymm}
 use native.Mathlib.Omega.{arith}
 use mir.Syntax.{w64}
 use mir.Val.{toZ, ofZ}
 use mir.Facts.{toZ-ofZ}
-use lib.IntN.{pos, negℤ}
+use lib.IntN.{ℤ, pos}
 use lib.ListN.{replicate}
-use Rattle.motion.specs.Direction.{along}
+use Rattle.motion.specs.declared.state.State.{State}
+use Rattle.motion.specs.Inner.SnapLevels.{AreLevels}
 use Rattle.motion.specs.Inner.Runs.{Ran}
 use Rattle.motion.proofs.StateLaws.{snap-small}
 use Rattle.motion.proofs.RunLaws.{Left, all-left, can-part, part-done, none-left, ran-length}
@@ -33,19 +34,22 @@ durations-of-requires c κs = c .before .pre .0 .ordered
 at-rest-requires : tie.Need-at-rest-requires Inv-loop μ-loop
 at-rest-requires c κs = tt
 
--- the direction, as it was passed on
-forward : (c : tie.After-levels-of Inv-loop μ-loop) → along (toZ w64 (ofZ w64 (c .before .args .displacement))) (pos (c .before .args .plan .snap)) ≡ along (c .before .args .displacement) (pos (c .before .args .plan .snap))
-forward c = ap (λ x. along x (pos (c .before .args .plan .snap))) (toZ-ofZ {w = w64} {z = c .before .args .displacement} (c .before .fits .displacement))
-
 -- the segments are those of the plan
 all :
     (c : tie.After-durations-of Inv-loop μ-loop)
-    → todo (c .durations-of .result) (c .before .levels-of .result) 0
-    ≡ run (c .before .before .args .displacement) (c .before .before .args .plan .a) (c .before .before .args .plan .b) (c .before .before .args .plan .c) (c .before .before .args .plan .e) (c .before .before .args .plan .snap) (c .before .before .pre .0)
+    → todo (c .durations-of .result) (c .before .levels-of .result) 0 ≡ run (c .before .before .args .displacement) _ _ _ _ _ (c .before .before .pre .0)
 all c =
-    let t = c .before .levels-of .ensures in
-    whole-run _ _ (c .before .before .args .displacement) (c .before .before .pre .0) (c .durations-of .ensures)
-    (t .0 ∙ forward (c .before)) (t .1 ∙ ap negℤ (forward (c .before)))
+    let a = c .before .before .args in
+    let back = toZ-ofZ {w = w64} {z = a .displacement} (c .before .before .fits .displacement) in
+    whole-run _ _ (c .before .before .pre .0) (c .durations-of .ensures)
+    (subst (λ X. AreLevels X (a .plan .snap) (c .before .levels-of .result)) back (c .before .levels-of .ensures))
+
+-- what is left of the run from segment i on, and that it comes to the same as the whole
+abbrev after : tie.After-at-rest Inv-loop μ-loop → ℕ → List ℤ
+after d i = todo (d .before .durations-of .result) (d .before .before .levels-of .result) i
+
+abbrev Remains : tie.After-at-rest Inv-loop μ-loop → List ℤ → State → List ℤ → Type 0
+Remains d xs state table = Left xs state table (after d 0) (d .at-rest .result) (d .before .before .before .args .table .now)
 
 loop-holds : tie.Need-loop-holds Inv-loop μ-loop
 loop-holds c =
@@ -58,12 +62,10 @@ segment-at-requires c κs = c .loop-test .taken
 -- one segment, and what is left after it
 parted :
     (c : tie.After-struct-told Inv-loop μ-loop)
-    → Left
+    → Remains (c .before .before .before .before .before)
     (replicate (c .before .before .segment-at .result .samples) (toZ w64 (ofZ w64 (c .before .before .segment-at .result .snap)))
-    ++ todo (c .before .before .before .before .before .before .durations-of .result) (c .before .before .before .before .before .before .before .levels-of .result) (c .before .before .before .before .loop .i + 1))
+    ++ after (c .before .before .before .before .before) (c .before .before .before .before .loop .i + 1))
     (c .before .before .before .before .loop .state) (c .before .before .before .before .loop .table)
-    (todo (c .before .before .before .before .before .before .durations-of .result) (c .before .before .before .before .before .before .before .levels-of .result) 0)
-    (c .before .before .before .before .before .at-rest .result) (c .before .before .before .before .before .before .before .before .args .table .now)
 parted c =
     let g = c .before .before .segment-at in
     let back = toZ-ofZ {w = w64} {z = g .result .snap} (record { sfits = c .struct-told .given .1 .0 .1 }) in
@@ -82,11 +84,7 @@ loop-again : tie.Need-loop-again Inv-loop μ-loop
 loop-again c = (omega arith, part-done _ _ (parted (c .before .before)) (c .before .store-segment .ensures))
 
 -- only the last row is left
-ended :
-    (c : tie.After-loop Inv-loop μ-loop)
-    → Left (pos 0 ∷ []) (c .before .loop .state) (c .before .loop .table)
-    (todo (c .before .before .before .durations-of .result) (c .before .before .before .before .levels-of .result) 0)
-    (c .before .before .at-rest .result) (c .before .before .before .before .before .args .table .now)
+ended : (c : tie.After-loop Inv-loop μ-loop) → Remains (c .before .before) (pos 0 ∷ []) (c .before .loop .state) (c .before .loop .table)
 ended c = rw (last-row _ _ (le-antisymm (c .before .loop .inv .0) (c .loop-test .left))) at (c .before .loop .inv .1)
 
 store-segment-requires-2 : tie.Need-store-segment-requires-2 Inv-loop μ-loop
@@ -94,10 +92,8 @@ store-segment-requires-2 c κs = ended (c .before) .can
 
 ran :
     (c : tie.After-table2 Inv-loop μ-loop)
-    → Ran
-    (todo (c .before .before .before .before .before .before .durations-of .result) (c .before .before .before .before .before .before .before .levels-of .result) 0)
-    (c .before .before .before .before .before .at-rest .result) (c .before .before .before .before .before .before .before .before .args .table .now)
-    (c .before .store-segment2 .last .0) (c .before .store-segment2 .result)
+    → let d = c .before .before .before .before .before in
+    Ran (after d 0) (d .at-rest .result) (d .before .before .before .args .table .now) (c .before .store-segment2 .last .0) (c .before .store-segment2 .result)
 ran c = none-left (part-done (pos 0 ∷ []) [] (ended (c .before .before .before)) (c .before .store-segment2 .ensures))
 
 same-length : tie.Need-same-length Inv-loop μ-loop
