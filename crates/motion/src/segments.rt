@@ -1,9 +1,7 @@
 // The fifteen segments of a profile.
 use crate::snap::Levels;
 use planner::Plan;
-ghost use mathlib.Core.Path.{_≡_};
 ghost use Prim.Native.Nat.{_<_};
-ghost use Rattle.planner.specs.Durations.{p, q, r, s};
 ghost use Rattle.planner.specs.Facts.{Ordered};
 ghost use Rattle.motion.specs.Inner.SegmentSnaps.{IsDurations, NextSegment};
 

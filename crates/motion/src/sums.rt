@@ -12,9 +12,8 @@ ghost use mathlib.Core.Path.{_≡_};
 ghost use Prim.Native.Nat.{_≤_};
 ghost use Rattle.planner.specs.Durations.{N};
 ghost use mathlib.Core.List.{[], _∷_};
-ghost use lib.IntN.{pos, negℤ};
 ghost use Rattle.profile.specs.Widths.{snapBy};
-ghost use Rattle.motion.specs.Inner.Steps.{StepFits, stateAt, StepsFitBy};
+ghost use Rattle.motion.specs.Inner.Steps.{stateAt, StepsFitBy};
 ghost use Rattle.motion.specs.Inner.Planned.{Playable, SampleOf};
 
 // The state at sample k.
