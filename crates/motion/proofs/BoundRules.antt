@@ -1,15 +1,13 @@
 -- Document 01, demand 3, "Bound rules" and "Never turning back", for the numbers of a plan. Assumes nothing.
-use Prim.Native.Nat.{ℕ, zero, suc, _-_, _*_, _≤_, _<_}
-use native.Mathlib.Nat.{le-trans, mul-assoc, not-suc-le-zero}
+use Prim.Native.Nat.{ℕ, zero, suc, _-_, _≤_, _<_}
+use native.Mathlib.Nat.{le-trans, not-suc-le-zero}
 use lib.Dec.{ltb→lt}
 use lib.IntN.{ℤ, pos, negsuc, negℤ, natAbs}
 use lib.Signed.{_≤ℤ_, _<ℤ_}
-use Rattle.planner.specs.Facts.{PlanFacts}
 use Rattle.profile.specs.Profile as profile
-use Rattle.profile.specs.Facts.{At}
-use Rattle.profile.proofs.FourthOrder.{fourth-order}
 use Rattle.motion.specs.Direction as direction
 use Rattle.motion.specs.Direction.{along}
+use Rattle.motion.proofs.KeptRules.{Keeps, at}
 use Rattle.motion.proofs.StateLaws.{size-along}
 
 -- a number that is not negative, in either direction
@@ -28,37 +26,30 @@ unfolding along
 along-backward (pos n) x h k = absurd (not-suc-le-zero (ltb→lt n 0 (h .lt)))
 along-backward (negsuc n) x h k = negated-not-above x k
 
-module _ {X : ℤ} {V₀ A₀ J₀ S₀ a b c e D short : ℕ} (f : PlanFacts X V₀ A₀ J₀ S₀ a b c e D short) where
-  pub at : (size k : ℕ) → At a b c e size k
-  at size k = fourth-order a b c e (f .ordered .a-b) (f .ordered .ab-c) (f .ordered .abc-e) size k
-
+module _ {X : ℤ} {V₀ A₀ J₀ S₀ a b c e D short : ℕ} (f : Keeps X V₀ A₀ J₀ S₀ a b c e D short) where
   -- the four bounds
   pub snap-bound : (k : ℕ) → natAbs (direction.snap X a b c e D k) ≤ S₀
   unfolding direction.snap
-  snap-bound k = rw (size-along X (profile.snap _ _ _ _ D k)) (le-trans (at D k .snap-size) (f .bounds .snap))
+  snap-bound k = rw (size-along X (profile.snap _ _ _ _ D k)) (le-trans (at (f .ordered) D k .snap-size) (f .snap))
 
   pub jerk-bound : (k : ℕ) → natAbs (direction.jerk X a b c e D k) ≤ J₀
   unfolding direction.jerk
-  jerk-bound k = rw (size-along X (profile.jerk _ _ _ _ D k)) (le-trans (at D k .jerk-size) (le-trans (f .bounds .jerk) (f .bounds .jerk-bound)))
+  jerk-bound k = rw (size-along X (profile.jerk _ _ _ _ D k)) (le-trans (at (f .ordered) D k .jerk-size) (f .jerk))
 
   pub acceleration-bound : (k : ℕ) → natAbs (direction.acceleration X a b c e D k) ≤ A₀
   unfolding direction.acceleration
   acceleration-bound k =
-      rw (size-along X (profile.acceleration _ _ _ _ D k))
-      (le-trans (at D k .acceleration-size) (rw (mul-assoc D a b) at (le-trans (f .bounds .acceleration) (f .bounds .acceleration-bound))))
+      rw (size-along X (profile.acceleration _ _ _ _ D k)) (le-trans (at (f .ordered) D k .acceleration-size) (f .acceleration))
 
   pub velocity-bound : (k : ℕ) → natAbs (direction.velocity X a b c e D k) ≤ V₀
   unfolding direction.velocity
-  velocity-bound k =
-      rw (size-along X (profile.velocity _ _ _ _ D k))
-      (le-trans (at D k .velocity-size)
-      (rw (mul-assoc D a b, mul-assoc D (a * b) c) at (le-trans (f .bounds .velocity) (f .bounds .velocity-bound))))
+  velocity-bound k = rw (size-along X (profile.velocity _ _ _ _ D k)) (le-trans (at (f .ordered) D k .velocity-size) (f .velocity))
 
   -- never turning back
   pub forward : pos 0 <ℤ X → (k : ℕ) → pos 0 ≤ℤ direction.velocity X a b c e D k
   unfolding direction.velocity
-  forward h k = along-forward X _ h (at D k .forward)
+  forward h k = along-forward X _ h (at (f .ordered) D k .forward)
 
   pub backward : X <ℤ pos 0 → (k : ℕ) → direction.velocity X a b c e D k ≤ℤ pos 0
   unfolding direction.velocity
-  backward h k = along-backward X _ h (at D k .forward)
+  backward h k = along-backward X _ h (at (f .ordered) D k .forward)

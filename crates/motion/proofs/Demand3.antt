@@ -2,17 +2,17 @@
 -- (profile) and on the promises of the entries alone. Assumes nothing.
 use mathlib.Core.List.{List, _++_}
 use mathlib.Core.Path.{_≡_, sym, ap, _∙_}
-use Prim.Native.Nat.{ℕ, zero, suc, _+_, _≤_, _<_, zero-le}
+use Prim.Native.Nat.{ℕ, _+_, _≤_, _<_, zero-le}
 use native.Mathlib.Nat.{le-refl}
 use native.Mathlib.Omega.{arith}
 use borrow.Author.Tests.{le-ltb}
-use lib.Dec.{ltb, le→leb, lt→ltb}
+use lib.Dec.{ltb}
 use lib.IntN.{ℤ, pos}
 use lib.ListN.{length, getD, drop, length-append, List·getD-append}
-use lib.Signed.{_≤ℤ_, _<ℤ_}
 use Rattle.planner.specs.Quantities.{distance}
 use Rattle.planner.specs.Intervals as rule
 use Rattle.planner.specs.Durations as durations
+use Rattle.planner.specs.Outcome.{samplesOf}
 use Rattle.planner.specs.Accepted.{Accepted}
 use Rattle.planner.proofs.Acceptance.{accepted-outcome}
 use Rattle.planner.proofs.PlannedFacts.{planned-facts}
@@ -21,9 +21,11 @@ use Rattle.motion.specs.Result.{Result, refused, given}
 use Rattle.motion.specs.Sampling.{Values, valuesWith, sampleWith, Samples}
 use Rattle.motion.specs.Tables.{rowsFrom, tableOf, tableResult, FillsPositions}
 use Rattle.motion.specs.Demand3.{Claim}
+use Rattle.motion.proofs.IntegerLaws.{not-below-zero, pos-below}
 use Rattle.motion.proofs.CountLaws.{one-count}
 use Rattle.motion.proofs.EntryLaws.{Entered, passes}
-use Rattle.motion.proofs.FillLaws.{length-rows}
+use Rattle.motion.proofs.FillLaws.{length-rows, row-at}
+use Rattle.motion.proofs.KeptRules.{keeps}
 use Rattle.motion.proofs.SumsFromRest as sums
 use Rattle.motion.proofs.BoundRules as bounds
 use Rattle.motion.proofs.HalfCountRule as half
@@ -33,13 +35,6 @@ use Rattle.motion.proofs.EndRule as end
 valuesOf : Result Values → Values
 valuesOf (refused number) = record { snap = pos 0; jerk = pos 0; acceleration = pos 0; velocity = pos 0; position = pos 0; count = pos 0 }
 valuesOf (given v) = v
-
--- row k of a table
-row-at : (row : ℕ → ℤ) (j n k : ℕ) → k < n → getD (rowsFrom row j n) k (pos 0) ≡ row (j + k)
-unfolding rowsFrom
-row-at row j zero k h = absurd (omega arith)
-row-at row j (suc n) zero h = ap row (omega arith)
-row-at row j (suc n) (suc k) h = row-at row (suc j) n k (omega arith) ∙ ap row (omega arith)
 
 module _ (X : ℤ) (V₀ A₀ J₀ S₀ : ℕ) (h : Accepted X V₀ A₀ J₀ S₀) where
   abbrev a : ℕ
@@ -125,16 +120,10 @@ module _ (X : ℤ) (V₀ A₀ J₀ S₀ : ℕ) (h : Accepted X V₀ A₀ J₀ S�
     answered : (k : ℕ) → k ≤ N → sample k ≡ given (valuesOf (sample k))
     answered k l = sampled l (promised k l) ∙ ap given (sym (values k l))
 
-not-below-zero : (n : ℕ) → pos 0 ≤ℤ pos n
-not-below-zero n = record { le = le→leb 0 n zero-le }
-
-below : (m n : ℕ) → m < n → pos m <ℤ pos n
-below m n h = record { lt = lt→ltb m n h }
-
 pub demand-3 : Claim
-unfolding value.N value.P value.snap value.jerk value.acceleration value.velocity value.position value.exactPosition
+unfolding value.N samplesOf value.P value.snap value.jerk value.acceleration value.velocity value.position value.exactPositionTimesP
 demand-3 X V₀ A₀ J₀ S₀ h sample promised old new rows room filled =
-    let f = plan X V₀ A₀ J₀ S₀ h .facts in
+    let f = keeps (plan X V₀ A₀ J₀ S₀ h .facts) in
     let at-snap = snap X V₀ A₀ J₀ S₀ h sample promised in
     let at-jerk = jerk X V₀ A₀ J₀ S₀ h sample promised in
     let at-acceleration = acceleration X V₀ A₀ J₀ S₀ h sample promised in
@@ -163,10 +152,10 @@ demand-3 X V₀ A₀ J₀ S₀ h sample promised old new rows room filled =
       velocity-bound = λ k l. rw (at-velocity k l) (bounds.velocity-bound f k);
       forward = λ s k l. rw (at-velocity k l) (bounds.forward f s k);
       backward = λ s k l. rw (at-velocity k l) (bounds.backward f s k);
-      never-past = λ s k l. rw (at-position k l, half.lag-ahead f s k) (not-below-zero _);
-      below-half = λ s k l. rw (at-position k l, half.lag-ahead f s k) (below _ _ (half.lag-half f k));
-      never-past-back = λ s k l. rw (at-position k l, half.lag-behind f s k) (not-below-zero _);
-      below-half-back = λ s k l. rw (at-position k l, half.lag-behind f s k) (below _ _ (half.lag-half f k));
+      never-past = λ s k l. rw (at-position k l, half.lack-ahead f s k) (not-below-zero _);
+      below-half = λ s k l. rw (at-position k l, half.lack-ahead f s k) (pos-below _ _ (half.below-half f k));
+      never-past-back = λ s k l. rw (at-position k l, half.lack-behind f s k) (not-below-zero _);
+      below-half-back = λ s k l. rw (at-position k l, half.lack-behind f s k) (pos-below _ _ (half.below-half f k));
       jerk-end = at-jerk _ last ∙ end.jerk-end f;
       acceleration-end = at-acceleration _ last ∙ end.acceleration-end f;
       velocity-end = at-velocity _ last ∙ end.velocity-end f;

@@ -6,9 +6,8 @@ use native.Mathlib.Omega.{arith}
 use lib.IntN.{ℤ, pos, negsuc}
 use Rattle.planner.specs.Quantities.{distance}
 use Rattle.planner.specs.Durations.{N, P}
-use Rattle.planner.specs.Facts.{PlanFacts}
 use Rattle.profile.specs.Facts.{AtEnd}
-use Rattle.profile.proofs.FourthOrder.{fourth-order-end}
+use Rattle.motion.proofs.KeptRules.{Keeps, at-end}
 use Rattle.motion.specs.Direction as direction
 use Rattle.motion.specs.Direction.{along}
 use Rattle.motion.specs.Count.{IsCount}
@@ -21,34 +20,31 @@ unfolding along distance
 near-end (pos i) n lack h l = count-positive n i (omega arith) (λ t. omega arith)
 near-end (negsuc i) n lack h l = mirrored (pos n) (pos (suc i)) (count-positive n (suc i) (omega arith) (λ t. omega arith))
 
-module _ {X : ℤ} {V₀ A₀ J₀ S₀ a b c e D short : ℕ} (f : PlanFacts X V₀ A₀ J₀ S₀ a b c e D short) where
-  abbrev whole : ℕ
-  whole = P a b c e
-
+module _ {X : ℤ} {V₀ A₀ J₀ S₀ a b c e D short : ℕ} (f : Keeps X V₀ A₀ J₀ S₀ a b c e D short) where
   -- at the end all but the position are 0
-  at-end : AtEnd a b c e D (N a b c e)
-  at-end = fourth-order-end a b c e (f .ordered .a-b) (f .ordered .ab-c) (f .ordered .abc-e) D (N a b c e) (le-refl _)
+  end : AtEnd a b c e D (N a b c e)
+  end = at-end (f .ordered) D (N a b c e) (le-refl (N a b c e))
 
   pub snap-end : direction.snap X a b c e D (N a b c e) ≡ pos 0
   unfolding direction.snap
-  snap-end = ap (along X) (at-end .snap-rests) ∙ along-zero X
+  snap-end = ap (along X) (end .snap-rests) ∙ along-zero X
 
   pub jerk-end : direction.jerk X a b c e D (N a b c e) ≡ pos 0
   unfolding direction.jerk
-  jerk-end = ap (along X) (at-end .jerk-rests) ∙ along-zero X
+  jerk-end = ap (along X) (end .jerk-rests) ∙ along-zero X
 
   pub acceleration-end : direction.acceleration X a b c e D (N a b c e) ≡ pos 0
   unfolding direction.acceleration
-  acceleration-end = ap (along X) (at-end .acceleration-rests) ∙ along-zero X
+  acceleration-end = ap (along X) (end .acceleration-rests) ∙ along-zero X
 
   pub velocity-end : direction.velocity X a b c e D (N a b c e) ≡ pos 0
   unfolding direction.velocity
-  velocity-end = ap (along X) (at-end .velocity-rests) ∙ along-zero X
+  velocity-end = ap (along X) (end .velocity-rests) ∙ along-zero X
 
-  position-end : direction.position X a b c e D (N a b c e) ≡ along X (pos (D * whole))
+  position-end : direction.position X a b c e D (N a b c e) ≡ along X (pos (D * P a b c e))
   unfolding direction.position
-  position-end = ap (along X) (at-end .position-full)
+  position-end = ap (along X) (end .position-full)
 
   -- and its count is X
   pub count-end : IsCount (direction.position X a b c e D (N a b c e)) X
-  count-end = rw position-end (near-end X (D * whole) short (f .whole) (le-trans (f .shortfall-below) (f .product)))
+  count-end = rw position-end (near-end X (D * P a b c e) short (f .whole) (le-trans (f .short-below) (f .product-most)))

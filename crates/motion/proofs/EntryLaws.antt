@@ -2,12 +2,12 @@
 use mathlib.Core.Bool.{Bool, true, false}
 use mathlib.Core.List.{List, [], _∷_}
 use mathlib.Core.Path.{_≡_, refl, sym, ap, subst, _∙_}
-use Prim.Native.Nat.{ℕ, _≤_, _^_}
+use Prim.Native.Nat.{ℕ, _+_, _≤_, _^_}
 use native.Mathlib.Nat.{le-trans, mul-le-mul-left}
 use native.Mathlib.Omega.{arith}
 use lib.IntN.{ℤ}
 use Rattle.planner.specs.Quantities.{distance, unitsPerCount}
-use Rattle.planner.specs.Outcome.{Outcome, planned, Check, check, outcomeOf, Plans}
+use Rattle.planner.specs.Outcome.{firstRefusal, samplesOf, Outcome, planned, Check, check, outcomeOf, Plans}
 use Rattle.planner.specs.Outcome as plan
 use Rattle.planner.specs.Intervals as rule
 use Rattle.planner.specs.Durations as durations
@@ -22,7 +22,7 @@ use Rattle.planner.specs.declared.PlanAnswer.the-variants.{Planned, Refused}
 use Rattle.planner.proofs.PlannedFacts.{answer-facts}
 use Rattle.motion.specs.Direction as direction
 use Rattle.motion.specs.Values as value
-use Rattle.motion.specs.Result.{refused, given, firstOf, resultOf}
+use Rattle.motion.specs.Result.{refused, given, resultOf}
 use Rattle.motion.specs.Inner.Planned.{Playable}
 
 -- an answer that is a refusal holds no plan
@@ -73,17 +73,17 @@ module _ {X : ℤ} {V₀ A₀ J₀ S₀ a b c e D short : ℕ} (h : Entered X V�
       }
 
   -- the entry's own checks come next
-  pub own-checks : {A : Type 0} (own : List Check) (x : A) → resultOf (outcomeOf X V₀ A₀ J₀ S₀) own x ≡ firstOf own x
+  pub own-checks : {A : Type 0} (own : List Check) (x : A) → resultOf (outcomeOf X V₀ A₀ J₀ S₀) own x ≡ firstRefusal refused own (given x)
   unfolding resultOf
   own-checks own x = ap (λ (o : Outcome). resultOf o own x) (h .outcome-is)
 
   pub applies : {A : Type 0} (n : ℕ) (t : Bool) (x : A) → t ≡ true → resultOf (outcomeOf X V₀ A₀ J₀ S₀) (check n t ∷ []) x ≡ refused n
-  unfolding firstOf
-  applies n t x k = own-checks (check n t ∷ []) x ∙ ap (λ (t : Bool). firstOf (check n t ∷ []) x) k
+  unfolding firstRefusal
+  applies n t x k = own-checks (check n t ∷ []) x ∙ ap (λ (t : Bool). firstRefusal refused (check n t ∷ []) (given x)) k
 
   pub passes : {A : Type 0} (n : ℕ) (t : Bool) (x : A) → t ≡ false → resultOf (outcomeOf X V₀ A₀ J₀ S₀) (check n t ∷ []) x ≡ given x
-  unfolding firstOf
-  passes n t x k = own-checks (check n t ∷ []) x ∙ ap (λ (t : Bool). firstOf (check n t ∷ []) x) k
+  unfolding firstRefusal
+  passes n t x k = own-checks (check n t ∷ []) x ∙ ap (λ (t : Bool). firstRefusal refused (check n t ∷ []) (given x)) k
 
   -- what is made of the plan's numbers is what is made of the rule's
   pub by-rule :
@@ -94,8 +94,11 @@ module _ {X : ℤ} {V₀ A₀ J₀ S₀ a b c e D short : ℕ} (h : Entered X V�
   by-rule F = rw (rules .snap-rule, rules .a-rule, rules .b-rule, rules .c-rule, rules .e-rule) refl
 
   pub samples-are : durations.N a b c e ≡ value.N X V₀ A₀ J₀ S₀
-  unfolding value.N
+  unfolding value.N samplesOf
   samples-are = by-rule (λ a b c e D. durations.N a b c e)
+
+  pub rows-are : durations.N a b c e + 1 ≡ value.N X V₀ A₀ J₀ S₀ + 1
+  rows-are = ap (λ (n : ℕ). n + 1) samples-are
 
   pub position-is : (k : ℕ) → direction.position X a b c e D k ≡ value.position X V₀ A₀ J₀ S₀ k
   unfolding value.position

@@ -1,12 +1,13 @@
--- Sizes of signed numbers. Assumes nothing.
+-- Sizes, differences and the order of signed numbers. Assumes nothing.
 use mathlib.Core.Bool.{Bool, true, false, cond}
-use mathlib.Core.Path.{_≡_, refl, sym}
-use Prim.Native.Nat.{ℕ, zero, suc, _+_, _-_, _*_}
+use mathlib.Core.Path.{_≡_, refl, sym, ap, _∙_}
+use Prim.Native.Nat.{ℕ, zero, suc, _+_, _-_, _*_, _≤_, _<_, zero-le}
 use native.Mathlib.Nat.{mul-zero}
 use native.Mathlib.Omega.{arith}
-use borrow.Author.Tests.{ltb-true, ltb-false}
-use lib.Dec.{ltb}
-use lib.IntN.{ℤ, pos, negsuc, negℤ, natAbs, _+ℤ_, _-ℤ_, _*ℤ_, negℤ-+ℤ, negℤ-negℤ}
+use borrow.Author.Tests.{ltb-true, ltb-false, le-ltb}
+use lib.Dec.{ltb, le→leb, lt→ltb}
+use lib.IntN.{ℤ, pos, negsuc, negℤ, natAbs, _+ℤ_, _-ℤ_, _*ℤ_, negℤ-+ℤ, negℤ-negℤ, +ℤ-comm}
+use lib.Signed.{_≤ℤ_, _<ℤ_}
 
 pub size-negated : (x : ℤ) → natAbs (negℤ x) ≡ natAbs x
 size-negated (pos zero) = refl
@@ -29,3 +30,17 @@ size-below m n false h = omega (arith, ltb-false m n h)
 pub size-difference : (m n : ℕ) → natAbs (pos m -ℤ pos n) ≡ (m - n) + (n - m)
 size-difference m zero = omega arith
 size-difference m (suc n) = size-below m (suc n) (ltb m (suc n)) refl
+
+pub difference : (m n : ℕ) → n ≤ m → pos m -ℤ pos n ≡ pos (m - n)
+difference m zero h = ap pos (omega arith)
+difference m (suc n) h = ap (λ (t : Bool). cond t (negsuc (suc n - suc m)) (pos (m - suc n))) (le-ltb m (suc n) h)
+
+pub swapped-difference : (x y : ℤ) → negℤ x -ℤ negℤ y ≡ y -ℤ x
+swapped-difference x y = ap (λ z. negℤ x +ℤ z) (negℤ-negℤ y) ∙ +ℤ-comm (negℤ x) y
+
+-- the order
+pub not-below-zero : (n : ℕ) → pos 0 ≤ℤ pos n
+not-below-zero n = record { le = le→leb 0 n zero-le }
+
+pub pos-below : (m n : ℕ) → m < n → pos m <ℤ pos n
+pos-below m n h = record { lt = lt→ltb m n h }

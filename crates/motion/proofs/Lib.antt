@@ -20,6 +20,7 @@ pub mod SamplingLaws
 pub mod FillLaws
 pub mod AnswerLaws
 -- Demand 3, line by line, and whole.
+pub mod KeptRules
 pub mod SumsFromRest
 pub mod BoundRules
 pub mod HalfCountRule

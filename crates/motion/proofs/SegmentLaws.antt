@@ -5,10 +5,10 @@ use mathlib.Core.Path.{_≡_, refl, sym, subst}
 use Prim.Native.Nat.{ℕ, zero, suc, _<_}
 use native.Mathlib.Omega.{arith}
 use lib.IntN.{ℤ, pos}
-use Rattle.profile.specs.Segments.{segments}
+use Rattle.profile.specs.Segments.{level, segments}
 use Rattle.motion.specs.declared.segments.Durations.{Durations}
 use Rattle.motion.specs.declared.snap.Levels.{Levels}
-use Rattle.motion.specs.Inner.SegmentSnaps.{level, snapsOf, NextSegment}
+use Rattle.motion.specs.Inner.SegmentSnaps.{snapsOf, NextSegment}
 
 -- i is k or one of ks
 abbrev pub Among : ℕ → List ℕ → ℕ → Type 0

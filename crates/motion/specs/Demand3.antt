@@ -24,7 +24,7 @@ module _ (X : ℤ) (V₀ A₀ J₀ S₀ : ℕ) where
   G = pos unitsPerCount
 
   abbrev E : ℕ → ℤ
-  E = value.exactPosition X V₀ A₀ J₀ S₀
+  E = value.exactPositionTimesP X V₀ A₀ J₀ S₀
 
   pub record Demand3 (sample : ℕ → Result Values) (table : List ℤ) : Type 0 where
     -- The five values and the count that the entry gives for each k from 0 to N.

@@ -4,6 +4,7 @@ use lib.IntN.{ℤ}
 use Rattle.planner.specs.Quantities.{distance}
 use Rattle.planner.specs.Intervals as rule
 use Rattle.planner.specs.Durations as durations
+use Rattle.planner.specs.Outcome.{samplesOf}
 use Rattle.motion.specs.Direction as direction
 
 module _ (X : ℤ) (V₀ A₀ J₀ S₀ : ℕ) where
@@ -27,7 +28,7 @@ module _ (X : ℤ) (V₀ A₀ J₀ S₀ : ℕ) where
 
   -- The samples that the move takes.
   unfoldable pub N : ℕ
-  N = durations.N a b c e
+  N = samplesOf W V₀ A₀ J₀ S₀
 
   -- The product of the intervals.
   unfoldable pub P : ℕ
@@ -49,5 +50,5 @@ module _ (X : ℤ) (V₀ A₀ J₀ S₀ : ℕ) where
   position = direction.position X a b c e D
 
   -- "the exact profile times P is the profile with W for D": the paper's E.
-  unfoldable pub exactPosition : ℕ → ℤ
-  exactPosition = direction.position X a b c e W
+  unfoldable pub exactPositionTimesP : ℕ → ℤ
+  exactPositionTimesP = direction.position X a b c e W

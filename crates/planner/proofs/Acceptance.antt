@@ -10,16 +10,16 @@ use native.Mathlib.Omega.{arith}
 use borrow.Author.Tests.{ne-eqb, le-ltb, ltb-false, eqb-false}
 use lib.IntN.{ℤ, natAbs}
 use Rattle.planner.specs.Quantities.{distance}
-use Rattle.planner.specs.Outcome.{Outcome, Check, check, firstRefusal, mostCounts, mostSamples, samplesOf, rulePlan, outcomeOf, Plans}
+use Rattle.planner.specs.Outcome.{Outcome, refused, Check, check, firstRefusal, mostCounts, mostSamples, samplesOf, rulePlan, outcomeOf, Plans}
 use Rattle.planner.specs.Accepted.{Accepted, IsPlanned}
 use Rattle.planner.proofs.RefusalLaws.{skip, none-left, plans, bound-in-range, bound-passes}
 
 -- a plan passes each check
 record Passes (t : Bool) (xs : List Check) (o : Outcome) : Type 0 where
   not-here : t ≡ false
-  rest : IsPlanned (firstRefusal xs o)
+  rest : IsPlanned (firstRefusal refused xs o)
 
-passes : (n : ℕ) (t : Bool) (xs : List Check) (o : Outcome) → IsPlanned (firstRefusal (check n t ∷ xs) o) → Passes t xs o
+passes : (n : ℕ) (t : Bool) (xs : List Check) (o : Outcome) → IsPlanned (firstRefusal refused (check n t ∷ xs) o) → Passes t xs o
 unfolding firstRefusal
 passes n true xs o h = absurd h
 passes n false xs o h = record { not-here = refl; rest = h }

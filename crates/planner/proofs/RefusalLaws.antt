@@ -17,7 +17,7 @@ use Rattle.planner.specs.Inner.Capped.{planWithin, IntervalsAgree}
 
 -- p is what the checks xs leave of the outcome o
 pub record Gives (xs : List Check) (o p : Outcome) : Type 0 where
-  pub is : p ≡ firstRefusal xs o
+  pub is : p ≡ firstRefusal refused xs o
 
 -- a check that applies, and one that does not
 pub stop : {n : ℕ} {t : Bool} {xs : List Check} {o : Outcome} → t ≡ true → Gives (check n t ∷ xs) o (refused n)

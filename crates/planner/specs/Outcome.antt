@@ -33,10 +33,11 @@ pub data Check : Type 0 where
   check : (number : ℕ) (applies : Bool) → Check
 
 -- "Where several apply, the lowest number is given": the checks stand in the order of their numbers.
-unfoldable pub firstRefusal : List Check → Outcome → Outcome
-firstRefusal [] o = o
-firstRefusal (check number true ∷ xs) o = refused number
-firstRefusal (check number false ∷ xs) o = firstRefusal xs o
+-- `refuse` makes an outcome of a number; o is the outcome where none applies.
+unfoldable pub firstRefusal : {O : Type 0} → (refuse : ℕ → O) → List Check → O → O
+firstRefusal refuse [] o = o
+firstRefusal refuse (check number true ∷ xs) o = refuse number
+firstRefusal refuse (check number false ∷ xs) o = firstRefusal refuse xs o
 
 -- The plan of four intervals for the distance W.
 abbrev pub planOf : (W a b c e : ℕ) → Outcome
@@ -64,7 +65,7 @@ checks X V₀ A₀ J₀ S₀ =
 
 -- The outcome of (X, V, A, J, S).
 unfoldable pub outcomeOf : (X : ℤ) (V₀ A₀ J₀ S₀ : ℕ) → Outcome
-outcomeOf X V₀ A₀ J₀ S₀ = firstRefusal (checks X V₀ A₀ J₀ S₀) (rulePlan (distance X) V₀ A₀ J₀ S₀)
+outcomeOf X V₀ A₀ J₀ S₀ = firstRefusal refused (checks X V₀ A₀ J₀ S₀) (rulePlan (distance X) V₀ A₀ J₀ S₀)
 
 -- What the planner promises of the outcome of its answer.
 pub record Plans (X : ℤ) (V₀ A₀ J₀ S₀ : ℕ) (o : Outcome) : Type 0 where

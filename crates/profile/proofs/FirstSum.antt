@@ -1,4 +1,4 @@
--- The first sum of the snap is D times the difference of the ramp of a samples, turned by all widths.
+-- The first sum of the snap is D times the difference of the ramp of a samples, delayed by all widths.
 -- Assumes nothing.
 use mathlib.Core.Path.{_≡_, refl, ap, _∙_}
 use mathlib.Core.Bool.{Bool, true, false, cond}
@@ -9,17 +9,17 @@ use native.Mathlib.Omega.{arith}
 use lib.Dec.{ltb}
 use lib.IntN.{ℤ, pos, negℤ, _+ℤ_}
 use borrow.Author.Tests.{ltb-true, ltb-false}
-use Rattle.profile.specs.Segments.{positive, segment, signed, snapIn}
+use Rattle.profile.specs.Segments.{level, positive, segment, signed, snapIn}
 use Rattle.profile.specs.Sums.{sum}
 use Rattle.profile.specs.Widths.{Spread, switched, ramp}
 use Rattle.profile.proofs.Differences.{Difference, none-is, one-is, plus, negated, same}
 use Rattle.profile.proofs.SumLaws.{sum-of-equal, sum-negated, sum-joined}
 use Rattle.profile.proofs.SwitchedLaws.{snap-rests, snap-switched}
-use Rattle.profile.proofs.Turns.{turns}
+use Rattle.profile.proofs.Delays.{delays}
 
--- x is D times the difference of the inner ramp turned by the outer widths
-abbrev pub Turned : (D a : ℕ) (outer inner : List ℕ) (x : ℕ → ℤ) → Type 0
-Turned D a outer inner x = (k : ℕ) → Difference D (x k) (turns outer (ramp a inner) (λ _. 0) k) (turns outer (λ _. 0) (ramp a inner) k)
+-- x is D times the difference of the inner ramp delayed by the outer widths
+abbrev pub DelayedRamp : (D a : ℕ) (outer inner : List ℕ) (x : ℕ → ℤ) → Type 0
+DelayedRamp D a outer inner x = (k : ℕ) → Difference D (x k) (delays outer (ramp a inner) (λ _. 0) k) (delays outer (λ _. 0) (ramp a inner) k)
 
 module _ (a D : ℕ) where
   -- one more of the first a samples, or none
@@ -28,12 +28,12 @@ module _ (a D : ℕ) where
   sample-is k false e = same none-is (omega (arith, ltb-false k a e))
 
   first-samples : (k : ℕ) → Difference D (sum (snapIn (segment a positive ∷ []) D) k) (min k a) 0
-  unfolding sum snapIn signed
+  unfolding sum snapIn signed level
   first-samples zero = same none-is (omega arith)
   first-samples (suc k) = same (plus (first-samples k) (sample-is k (ltb k a) refl)) (omega arith)
 
-  pub first-sum : (ws : List ℕ) → Spread a ws → Turned D a ws [] (sum (snapIn (switched a ws) D))
-  unfolding turns switched ramp Spread
+  pub first-sum : (ws : List ℕ) → Spread a ws → DelayedRamp D a ws [] (sum (snapIn (switched a ws) D))
+  unfolding delays switched ramp Spread
   first-sum [] s k = first-samples k
   first-sum (w ∷ ws) s k =
       rw parts (plus (first-sum ws (s .1) k) (negated (first-sum ws (s .1) (k - w))))

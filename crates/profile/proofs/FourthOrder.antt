@@ -8,7 +8,7 @@ use lib.IntN.{pos}
 use Rattle.profile.specs.Segments.{segments}
 use Rattle.profile.specs.Sums.{sums}
 use Rattle.profile.specs.Profile as profile
-use Rattle.profile.specs.Widths.{span, area, Spread, opposite, reversed, switched}
+use Rattle.profile.specs.Widths.{span, product, Spread, opposite, withOppositeSigns, switched}
 use Rattle.profile.specs.Facts.{At, AtEnd}
 use Rattle.profile.proofs.RampLaws.{ramp-top, ramp-full}
 use Rattle.profile.proofs.SnapLaws.{snap-size}
@@ -16,7 +16,7 @@ use Rattle.profile.proofs.SwitchedLaws.{snap-rests}
 use Rattle.profile.proofs.WidthLaws.{sum-size, sum-rests, sum-forward, sum-ramp}
 
 pub fifteen : (a b c e : ℕ) → segments a (b - a) (c - a - b) (e - a - b - c) ≡ switched a (e ∷ c ∷ b ∷ [])
-unfolding segments switched span reversed opposite
+unfolding segments switched span withOppositeSigns opposite
 fifteen a b c e = rw (sub-add-eq c a b, sub-add-eq e (a + b) c, sub-add-eq e a b)
 
 module _ (a b c e : ℕ) (ab : a ≤ b) (abc : a + b ≤ c) (abce : a + b + c ≤ e) where
@@ -25,7 +25,7 @@ module _ (a b c e : ℕ) (ab : a ≤ b) (abc : a + b ≤ c) (abce : a + b + c �
   spread = (abce, (abc, (ab, tt)))
 
   pub fourth-order : (D k : ℕ) → At a b c e D k
-  unfolding area profile.snap profile.jerk profile.acceleration profile.velocity profile.position sums
+  unfolding product profile.snap profile.jerk profile.acceleration profile.velocity profile.position sums
   fourth-order D k =
       record {
         snap-size = snap-size (segments a (b - a) (c - a - b) (e - a - b - c)) D k;
@@ -38,7 +38,7 @@ module _ (a b c e : ℕ) (ab : a ≤ b) (abc : a + b ≤ c) (abce : a + b + c �
       }
 
   pub fourth-order-end : (D k : ℕ) → a + b + c + e ≤ k → AtEnd a b c e D k
-  unfolding area span profile.snap profile.jerk profile.acceleration profile.velocity profile.position sums
+  unfolding product span profile.snap profile.jerk profile.acceleration profile.velocity profile.position sums
   fourth-order-end D k h =
       record {
         snap-rests = rw fifteen (snap-rests a (e ∷ c ∷ b ∷ []) spread D k h);

@@ -12,8 +12,8 @@ use Rattle.profile.specs.Widths.{total, ramp}
 use Rattle.profile.proofs.Differences.{Difference, none-is, plus, same}
 use Rattle.profile.proofs.Totals.{total-rising, total-of-none}
 use Rattle.profile.proofs.RampLaws.{ramp-start}
-use Rattle.profile.proofs.Turns.{turn, turns, turns-summed, turns-same}
-use Rattle.profile.proofs.FirstSum.{Turned}
+use Rattle.profile.proofs.Delays.{delay, delays, delays-summed, delays-same}
+use Rattle.profile.proofs.FirstSum.{DelayedRamp}
 
 sum-is :
     (D : ℕ) (x : ℕ → ℤ) (f g : ℕ → ℕ)
@@ -32,25 +32,25 @@ module _ (D a : ℕ) (outer : List ℕ) (w : ℕ) (inner : List ℕ) where
   g = λ _. 0
 
   -- the sums differ by the next ramp
-  next-ramp : (i : ℕ) → turn w (total f) (total g) i + 0 ≡ turn w (total g) (total f) i + ramp a (w ∷ inner) i
+  next-ramp : (i : ℕ) → delay w (total f) (total g) i + 0 ≡ delay w (total g) (total f) i + ramp a (w ∷ inner) i
   unfolding ramp
   next-ramp i = omega (arith, total-rising f (i - w) i (sub-le i w), total-of-none i, total-of-none (i - w))
 
-  next-sum : (x : ℕ → ℤ) → Turned D a (outer ++ (w ∷ [])) inner x → Turned D a outer (w ∷ inner) (sum x)
+  next-sum : (x : ℕ → ℤ) → DelayedRamp D a (outer ++ (w ∷ [])) inner x → DelayedRamp D a outer (w ∷ inner) (sum x)
   next-sum x t k =
-      let both = turns-same outer (turn w (total f) (total g)) (turn w (total g) (total f)) (ramp a (w ∷ inner)) g next-ramp k in
+      let both = delays-same outer (delay w (total f) (total g)) (delay w (total g) (total f)) (ramp a (w ∷ inner)) g next-ramp k in
       let start = ramp-start a inner in
-      same (sum-is D x (turns (outer ++ (w ∷ [])) f g) (turns (outer ++ (w ∷ [])) g f) t k)
-      (omega (arith, both, turns-summed outer w f g start refl k, turns-summed outer w g f refl start k))
+      same (sum-is D x (delays (outer ++ (w ∷ [])) f g) (delays (outer ++ (w ∷ [])) g f) t k)
+      (omega (arith, both, delays-summed outer w f g start refl k, delays-summed outer w g f refl start k))
 
 pub later-sums :
     (D a : ℕ) (inner outer ws : List ℕ)
     → ws ≡ outer ++ inner
     → (x : ℕ → ℤ)
-    → Turned D a ws [] (sum x)
-    → Turned D a outer inner (sums (suc (length inner)) x)
+    → DelayedRamp D a ws [] (sum x)
+    → DelayedRamp D a outer inner (sums (suc (length inner)) x)
 unfolding sums
-later-sums D a [] outer ws e x t = subst (λ (vs : List ℕ). Turned D a vs [] (sum x)) (e ∙ append-nil outer) t
+later-sums D a [] outer ws e x t = subst (λ (vs : List ℕ). DelayedRamp D a vs [] (sum x)) (e ∙ append-nil outer) t
 later-sums D a (w ∷ inner) outer ws e x t =
     next-sum D a outer w inner (sums (suc (length inner)) x)
     (later-sums D a inner (outer ++ (w ∷ [])) ws (e ∙ sym (append-assoc outer (w ∷ []) inner)) x t)

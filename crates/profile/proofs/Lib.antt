@@ -1,9 +1,9 @@
--- Natural numbers: differences, running sums, ramps, and ramps that change places.
+-- Natural numbers: differences, running sums, ramps, and ramps with delayed copies.
 pub mod Differences
 pub mod Totals
 pub mod RampLaws
-pub mod Turns
-pub mod TurnBounds
+pub mod Delays
+pub mod DelayBounds
 -- The snap in its segments, and the sums from rest.
 pub mod SumLaws
 pub mod SnapLaws
@@ -13,6 +13,8 @@ pub mod SwitchedLaws
 pub mod FirstSum
 pub mod LaterSums
 pub mod SpreadLaws
+pub mod ProductLaws
 pub mod WidthLaws
+pub mod HalfCountLaw
 -- The profile of the paper.
 pub mod FourthOrder

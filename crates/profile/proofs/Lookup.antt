@@ -10,7 +10,7 @@ use lib.Dec.{ltb}
 use lib.IntN.{ℤ, pos}
 use borrow.Author.Tests.{lt-ltb, le-ltb, ltb-false}
 use Rattle.profile.specs.Segments.{Sign, Segment, segment, signed, snapIn}
-use Rattle.profile.specs.Widths.{reversed}
+use Rattle.profile.specs.Widths.{withOppositeSigns}
 
 -- the samples of all segments
 unfoldable pub samples : List Segment → ℕ
@@ -22,10 +22,10 @@ unfolding samples
 samples-append [] ys = sym (zero-add (samples ys))
 samples-append (segment n g ∷ xs) ys = omega (arith, samples-append xs ys)
 
-pub samples-reversed : (xs : List Segment) → samples (reversed xs) ≡ samples xs
-unfolding samples reversed
-samples-reversed [] = refl
-samples-reversed (segment n g ∷ xs) = ap (λ (m : ℕ). n + m) (samples-reversed xs)
+pub samples-opposite : (xs : List Segment) → samples (withOppositeSigns xs) ≡ samples xs
+unfolding samples withOppositeSigns
+samples-opposite [] = refl
+samples-opposite (segment n g ∷ xs) = ap (λ (m : ℕ). n + m) (samples-opposite xs)
 
 module _ (n : ℕ) (g : Sign) (xs : List Segment) (D k : ℕ) where
   by-test : (t : Bool) → ltb k n ≡ t → snapIn (segment n g ∷ xs) D k ≡ cond t (signed g D) (snapIn xs D (k - n))

@@ -6,7 +6,7 @@ use Prim.Native.Nat.{ℕ, suc, _+_, _-_, _*_, _≤_}
 use native.Mathlib.Nat.{le-refl, le-trans, zero-sub, sub-le}
 use native.Mathlib.Omega.{arith}
 use native.Mathlib.Decide.{decLe, le-ind}
-use Rattle.profile.specs.Widths.{total, ramp, span, area}
+use Rattle.profile.specs.Widths.{total, ramp, span, product}
 use Rattle.profile.proofs.Totals.{total-rising, total-even, late-step}
 
 pub record Ramp (f : ℕ → ℕ) (top end : ℕ) : Type 0 where
@@ -41,10 +41,10 @@ module _ (f : ℕ → ℕ) (top end w : ℕ) (r : Ramp f top end) where
         full = moving-full;
       }
 
-pub ramp-is : (a : ℕ) (ws : List ℕ) → Ramp (ramp a ws) (area a ws) (span a ws)
-unfolding ramp area span
+pub ramp-is : (a : ℕ) (ws : List ℕ) → Ramp (ramp a ws) (product a ws) (span a ws)
+unfolding ramp product span
 ramp-is a [] = record { start = omega arith; rising = λ i k h. omega arith; full = λ k h. omega arith }
-ramp-is a (w ∷ ws) = moving-ramp (ramp a ws) (area a ws) (span a ws) w (ramp-is a ws)
+ramp-is a (w ∷ ws) = moving-ramp (ramp a ws) (product a ws) (span a ws) w (ramp-is a ws)
 
 module _ (a : ℕ) (ws : List ℕ) where
   pub ramp-start : ramp a ws 0 ≡ 0
@@ -53,8 +53,8 @@ module _ (a : ℕ) (ws : List ℕ) where
   pub ramp-rising : (i k : ℕ) → i ≤ k → ramp a ws i ≤ ramp a ws k
   ramp-rising = ramp-is a ws .rising
 
-  pub ramp-top : (k : ℕ) → ramp a ws k ≤ area a ws
+  pub ramp-top : (k : ℕ) → ramp a ws k ≤ product a ws
   ramp-top = below-top (ramp-is a ws)
 
-  pub ramp-full : (k : ℕ) → span a ws ≤ k → ramp a ws k ≡ area a ws
+  pub ramp-full : (k : ℕ) → span a ws ≤ k → ramp a ws k ≡ product a ws
   ramp-full = ramp-is a ws .full

@@ -8,11 +8,11 @@ use native.Mathlib.Nat.{le-refl}
 use native.Mathlib.Omega.{arith}
 use lib.Dec.{ltb}
 use lib.IntN.{ℤ, pos, negℤ, negℤ-negℤ, natAbs}
-use Rattle.profile.specs.Segments.{Sign, positive, none, negative, Segment, segment, signed, snapIn}
-use Rattle.profile.specs.Widths.{opposite, reversed}
+use Rattle.profile.specs.Segments.{level, Sign, positive, none, negative, Segment, segment, signed, snapIn}
+use Rattle.profile.specs.Widths.{opposite, withOppositeSigns}
 
 signed-size : (g : Sign) (D : ℕ) → natAbs (signed g D) ≤ D
-unfolding signed
+unfolding signed level
 signed-size positive D = le-refl D
 signed-size none D = omega arith
 signed-size negative zero = omega arith
@@ -29,7 +29,7 @@ snap-size (segment n g ∷ xs) D k =
     either-size (ltb k n) (signed g D) (snapIn xs D (k - n)) D (signed-size g D) (snap-size xs D (k - n))
 
 signed-opposite : (g : Sign) (D : ℕ) → signed (opposite g) D ≡ negℤ (signed g D)
-unfolding signed opposite
+unfolding signed opposite level
 signed-opposite positive D = refl
 signed-opposite none D = refl
 signed-opposite negative D = sym (negℤ-negℤ (pos D))
@@ -38,8 +38,8 @@ pub either-negated : (t : Bool) (x y : ℤ) → cond t (negℤ x) (negℤ y) ≡
 either-negated true x y = refl
 either-negated false x y = refl
 
-pub snap-reversed : (xs : List Segment) (D k : ℕ) → snapIn (reversed xs) D k ≡ negℤ (snapIn xs D k)
-unfolding snapIn reversed
-snap-reversed [] D k = refl
-snap-reversed (segment n g ∷ xs) D k =
-    ap₂ (cond (ltb k n)) (signed-opposite g D) (snap-reversed xs D (k - n)) ∙ either-negated (ltb k n) (signed g D) (snapIn xs D (k - n))
+pub snap-opposite : (xs : List Segment) (D k : ℕ) → snapIn (withOppositeSigns xs) D k ≡ negℤ (snapIn xs D k)
+unfolding snapIn withOppositeSigns
+snap-opposite [] D k = refl
+snap-opposite (segment n g ∷ xs) D k =
+    ap₂ (cond (ltb k n)) (signed-opposite g D) (snap-opposite xs D (k - n)) ∙ either-negated (ltb k n) (signed g D) (snapIn xs D (k - n))

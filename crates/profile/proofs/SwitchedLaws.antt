@@ -9,17 +9,17 @@ use native.Mathlib.Decide.{decLe}
 use lib.Dec.{ltb}
 use lib.IntN.{ℤ, pos, negℤ, negℤ-negℤ}
 use borrow.Author.Tests.{ltb-true, ltb-false}
-use Rattle.profile.specs.Segments.{none, Segment, segment, signed, snapIn}
-use Rattle.profile.specs.Widths.{span, Spread, reversed, switched, snapBy}
-use Rattle.profile.proofs.SnapLaws.{snap-reversed, either-negated}
-use Rattle.profile.proofs.Lookup.{samples, samples-append, samples-reversed, snap-first, snap-next, snap-in-front, snap-behind, snap-ends}
+use Rattle.profile.specs.Segments.{level, none, Segment, segment, signed, snapIn}
+use Rattle.profile.specs.Widths.{span, Spread, withOppositeSigns, switched, snapBy}
+use Rattle.profile.proofs.SnapLaws.{snap-opposite, either-negated}
+use Rattle.profile.proofs.Lookup.{samples, samples-append, samples-opposite, snap-first, snap-next, snap-in-front, snap-behind, snap-ends}
 
 pub samples-switched : (a : ℕ) (ws : List ℕ) → Spread a ws → samples (switched a ws) ≡ span a ws
 unfolding samples switched span Spread
 samples-switched a [] s = omega arith
 samples-switched a (w ∷ ws) s =
-    samples-append (switched a ws) (segment (w - span a ws) none ∷ reversed (switched a ws))
-    ∙ omega (arith, samples-reversed (switched a ws), samples-switched a ws (s .1), s .0)
+    samples-append (switched a ws) (segment (w - span a ws) none ∷ withOppositeSigns (switched a ws))
+    ∙ omega (arith, samples-opposite (switched a ws), samples-switched a ws (s .1), s .0)
 
 pub snap-rests : (a : ℕ) (ws : List ℕ) → Spread a ws → (D k : ℕ) → span a ws ≤ k → snapIn (switched a ws) D k ≡ pos 0
 snap-rests a ws s D k h = snap-ends (switched a ws) D k (omega (arith, samples-switched a ws s))
@@ -34,17 +34,17 @@ module _ (a w : ℕ) (ws : List ℕ) (s : Spread a (w ∷ ws)) (D k : ℕ) where
   inner = switched a ws
 
   abbrev behind : List Segment
-  behind = segment (w - span a ws) none ∷ reversed inner
+  behind = segment (w - span a ws) none ∷ withOppositeSigns inner
 
   fits : (samples inner ≡ span a ws) × (span a ws ≤ w)
   unfolding Spread
   fits = (samples-switched a ws (s .1), s .0)
 
   early : k < w → Dec (samples inner ≤ k) → snapIn (switched a (w ∷ ws)) D k ≡ snapIn inner D k
-  unfolding switched signed
+  unfolding switched signed level
   early h (yes l) =
       snap-behind inner behind D k l
-      ∙ snap-first (w - span a ws) none (reversed inner) D (k - samples inner) (omega (arith, fits))
+      ∙ snap-first (w - span a ws) none (withOppositeSigns inner) D (k - samples inner) (omega (arith, fits))
       ∙ sym (snap-ends inner D k l)
   early h (no l) = snap-in-front inner behind D k (omega arith)
 
@@ -52,8 +52,8 @@ module _ (a w : ℕ) (ws : List ℕ) (s : Spread a (w ∷ ws)) (D k : ℕ) where
   unfolding switched
   late h =
       snap-behind inner behind D k (omega (arith, fits))
-      ∙ snap-next (w - span a ws) none (reversed inner) D (k - samples inner) (omega (arith, fits))
-      ∙ snap-reversed inner D (k - samples inner - (w - span a ws))
+      ∙ snap-next (w - span a ws) none (withOppositeSigns inner) D (k - samples inner) (omega (arith, fits))
+      ∙ snap-opposite inner D (k - samples inner - (w - span a ws))
       ∙ ap (λ (i : ℕ). negℤ (snapIn inner D i)) same-place
     where
       same-place : k - samples inner - (w - span a ws) ≡ k - w
@@ -74,7 +74,7 @@ snap-by-negated a (w ∷ ws) u v k =
     ∙ either-negated (ltb k w) (snapBy a ws u v k) (snapBy a ws v u (k - w))
 
 pub snap-by-widths : (a : ℕ) (ws : List ℕ) → Spread a ws → (D k : ℕ) → snapIn (switched a ws) D k ≡ snapBy a ws (pos D) (negℤ (pos D)) k
-unfolding snapIn switched snapBy Spread signed
+unfolding snapIn switched snapBy Spread signed level
 snap-by-widths a [] s D k = refl
 snap-by-widths a (w ∷ ws) s D k =
     snap-switched a w ws s D k

@@ -10,32 +10,32 @@ use lib.Signed.{_≤ℤ_}
 use lib.ListN.{length}
 use Rattle.profile.specs.Segments.{snapIn}
 use Rattle.profile.specs.Sums.{sums}
-use Rattle.profile.specs.Widths.{span, area, Spread, switched, ramp}
+use Rattle.profile.specs.Widths.{span, product, Spread, switched, ramp}
 use Rattle.profile.proofs.Differences.{size, level, value, forward}
 use Rattle.profile.proofs.RampLaws.{ramp-is, ramp-rising}
-use Rattle.profile.proofs.Turns.{turns}
-use Rattle.profile.proofs.TurnBounds.{turns-near, turns-within}
+use Rattle.profile.proofs.Delays.{delays}
+use Rattle.profile.proofs.DelayBounds.{delays-near, delays-within}
 use Rattle.profile.proofs.SpreadLaws.{span-append, spread-outer}
-use Rattle.profile.proofs.FirstSum.{Turned, first-sum}
+use Rattle.profile.proofs.FirstSum.{DelayedRamp, first-sum}
 use Rattle.profile.proofs.LaterSums.{later-sums}
 
 -- one sum more than there are inner widths
-pub sums-turned :
+pub sums-delayed :
     (a : ℕ) (outer inner : List ℕ)
     → Spread a (outer ++ inner)
     → (D : ℕ)
-    → Turned D a outer inner (sums (suc (length inner)) (snapIn (switched a (outer ++ inner)) D))
-sums-turned a outer inner s D =
+    → DelayedRamp D a outer inner (sums (suc (length inner)) (snapIn (switched a (outer ++ inner)) D))
+sums-delayed a outer inner s D =
     later-sums D a inner outer (outer ++ inner) refl (snapIn (switched a (outer ++ inner)) D) (first-sum a D (outer ++ inner) s)
 
 pub sum-size :
     (a : ℕ) (outer inner : List ℕ)
     → Spread a (outer ++ inner)
     → (D k : ℕ)
-    → natAbs (sums (suc (length inner)) (snapIn (switched a (outer ++ inner)) D) k) ≤ D * area a inner
+    → natAbs (sums (suc (length inner)) (snapIn (switched a (outer ++ inner)) D) k) ≤ D * product a inner
 sum-size a outer inner s D k =
-    let within = turns-within (ramp-is a inner) outer (spread-outer a outer inner s) k in
-    size (area a inner) (sums-turned a outer inner s D k) (within .0) (within .1)
+    let within = delays-within (ramp-is a inner) outer (spread-outer a outer inner s) k in
+    size (product a inner) (sums-delayed a outer inner s D k) (within .0) (within .1)
 
 pub sum-rests :
     (a w : ℕ) (outer inner : List ℕ)
@@ -44,22 +44,22 @@ pub sum-rests :
     → span a (w ∷ (outer ++ inner)) ≤ k
     → sums (suc (length inner)) (snapIn (switched a (w ∷ (outer ++ inner))) D) k ≡ pos 0
 sum-rests a w outer inner s D k h =
-    let near = turns-near (ramp-is a inner) w outer (spread-outer a (w ∷ outer) inner s) in
-    level (sums-turned a (w ∷ outer) inner s D k) (near .rests k (rw (span-append a (w ∷ outer) inner) at h))
+    let near = delays-near (ramp-is a inner) w outer (spread-outer a (w ∷ outer) inner s) in
+    level (sums-delayed a (w ∷ outer) inner s D k) (near .rests k (rw (span-append a (w ∷ outer) inner) at h))
 
 pub sum-forward :
     (a w : ℕ) (inner : List ℕ)
     → Spread a (w ∷ inner)
     → (D k : ℕ)
     → pos 0 ≤ℤ sums (suc (length inner)) (snapIn (switched a (w ∷ inner)) D) k
-unfolding turns
+unfolding delays
 sum-forward a w inner s D k =
-    forward (sums-turned a (w ∷ []) inner s D k) (omega (arith, ramp-rising a inner (k - w) k (sub-le k w)))
+    forward (sums-delayed a (w ∷ []) inner s D k) (omega (arith, ramp-rising a inner (k - w) k (sub-le k w)))
 
 pub sum-ramp :
     (a : ℕ) (ws : List ℕ)
     → Spread a ws
     → (D k : ℕ)
     → sums (suc (length ws)) (snapIn (switched a ws) D) k ≡ pos (D * ramp a ws k)
-unfolding turns
-sum-ramp a ws s D k = value (ramp a ws k) (sums-turned a [] ws s D k) (omega arith)
+unfolding delays
+sum-ramp a ws s D k = value (ramp a ws k) (sums-delayed a [] ws s D k) (omega arith)

@@ -7,21 +7,25 @@ use lib.Signed.{_≤ℤ_}
 use Rattle.profile.specs.Profile as profile
 use Rattle.profile.specs.Widths.{ramp}
 
+-- The durations of the segments, by the intervals: the paper's p, q, r, s.
+abbrev pub ofIntervals : {A : Type 0} → ((p q r s : ℕ) → A) → (a b c e : ℕ) → A
+ofIntervals f a b c e = f a (b - a) (c - a - b) (e - a - b - c)
+
 module _ (a b c e D : ℕ) where
   abbrev snap : ℕ → ℤ
-  snap = profile.snap a (b - a) (c - a - b) (e - a - b - c) D
+  snap = ofIntervals profile.snap a b c e D
 
   abbrev jerk : ℕ → ℤ
-  jerk = profile.jerk a (b - a) (c - a - b) (e - a - b - c) D
+  jerk = ofIntervals profile.jerk a b c e D
 
   abbrev acceleration : ℕ → ℤ
-  acceleration = profile.acceleration a (b - a) (c - a - b) (e - a - b - c) D
+  acceleration = ofIntervals profile.acceleration a b c e D
 
   abbrev velocity : ℕ → ℤ
-  velocity = profile.velocity a (b - a) (c - a - b) (e - a - b - c) D
+  velocity = ofIntervals profile.velocity a b c e D
 
   abbrev position : ℕ → ℤ
-  position = profile.position a (b - a) (c - a - b) (e - a - b - c) D
+  position = ofIntervals profile.position a b c e D
 
   -- At every sample, also after the last.
   pub record At (k : ℕ) : Type 0 where

@@ -35,11 +35,15 @@ segments p q r s =
     ∷ segment p negative
     ∷ []
 
+-- u in segments with +, v in those with −.
+unfoldable pub level : Sign → (u v : ℤ) → ℤ
+level positive u v = u
+level none u v = pos 0
+level negative u v = v
+
 -- A snap "of size D".
 unfoldable pub signed : Sign → ℕ → ℤ
-signed positive D = pos D
-signed none D = pos 0
-signed negative D = negℤ (pos D)
+signed sign D = level sign (pos D) (negℤ (pos D))
 
 -- The snap at sample k: that of the segment that k lies in. It is 0 from the end of the last segment on.
 unfoldable pub snapIn : List Segment → (D k : ℕ) → ℤ

@@ -13,9 +13,9 @@ span a [] = a
 span a (w ∷ ws) = span a ws + w
 
 -- The product of all intervals: the paper's P.
-unfoldable pub area : ℕ → List ℕ → ℕ
-area a [] = a
-area a (w ∷ ws) = area a ws * w
+unfoldable pub product : ℕ → List ℕ → ℕ
+product a [] = a
+product a (w ∷ ws) = product a ws * w
 
 -- Each width is at least the sum of those before it, from the innermost out.
 unfoldable pub Spread : ℕ → List ℕ → Type 0
@@ -27,14 +27,14 @@ opposite positive = negative
 opposite none = none
 opposite negative = positive
 
-unfoldable pub reversed : List Segment → List Segment
-reversed [] = []
-reversed (segment n sign ∷ rest) = segment n (opposite sign) ∷ reversed rest
+unfoldable pub withOppositeSigns : List Segment → List Segment
+withOppositeSigns [] = []
+withOppositeSigns (segment n sign ∷ rest) = segment n (opposite sign) ∷ withOppositeSigns rest
 
 -- The segments of the inner intervals, a pause, and the same with the signs changed, which start w samples after the first.
 unfoldable pub switched : ℕ → List ℕ → List Segment
 switched a [] = segment a positive ∷ []
-switched a (w ∷ ws) = switched a ws ++ (segment (w - span a ws) none ∷ reversed (switched a ws))
+switched a (w ∷ ws) = switched a ws ++ (segment (w - span a ws) none ∷ withOppositeSigns (switched a ws))
 
 -- The snap at k by the widths: u in segments with +, v in those with −, and they change places from w on.
 unfoldable pub snapBy : ℕ → List ℕ → (u v : ℤ) → ℕ → ℤ
@@ -46,7 +46,7 @@ unfoldable pub total : (ℕ → ℕ) → ℕ → ℕ
 total f zero = 0
 total f (suc k) = total f k + f k
 
--- The position of the profile at sample k for a snap of size 1: it rises from 0 to the product of all intervals. Each width turns it
+-- The position of the profile at sample k for a snap of size 1: it rises from 0 to the product of all intervals. Each width delays it
 -- into its sum over the last w samples.
 unfoldable pub ramp : ℕ → List ℕ → ℕ → ℕ
 ramp a [] k = min k a

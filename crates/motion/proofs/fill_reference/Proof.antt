@@ -2,8 +2,8 @@
 use borrow.Author.Needs.{needs}
 use mir.Syntax.{w64}
 use mir.Facts.{toZ-ofZ}
-use Rattle.motion.specs.Tables.{referenceRow, FillsReference}
-use Rattle.motion.proofs.EntryLaws.{entered, not-planned, playable, position-is}
+use Rattle.motion.specs.Tables.{referenceRow, referenceRows, FillsReference}
+use Rattle.motion.proofs.EntryLaws.{entered, not-planned, playable, rows-are, position-is}
 use Rattle.motion.proofs.FillLaws.{fills-refused, fills}
 use Rattle.motion.proofs.fill_reference.Statement.{statement}
 use Rattle.motion.proofs.fill_reference.Tie as tie
@@ -33,12 +33,12 @@ same-length : tie.Need-same-length
 same-length c = search needs
 
 returns-2 : tie.Need-returns-2
-unfolding FillsReference referenceRow
+unfolding FillsReference referenceRow referenceRows
 returns-2 c =
     let d = c .before .before .before .before .before in
     let back = toZ-ofZ {w = w64} {z = d .before .before .before .args .m .displacement} (record { sfits = c .before .before .struct-told .given .0 .1 }) in
     let h = entered (d .before .before .plan-move .ensures) (d .answer .given .1) in
-    fills h (position-is h) (rw back at (c .before .write-positions .ensures))
+    fills h (rows-are h) (position-is h) (rw back at (c .before .write-positions .ensures))
 
 pub fill-reference-spec : {M : Type 1} → statement M
 fill-reference-spec =

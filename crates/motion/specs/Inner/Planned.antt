@@ -6,18 +6,18 @@ use lib.Dec.{ltb}
 use lib.IntN.{ℤ}
 use lib.ListN.{length, drop}
 use Rattle.planner.specs.Durations.{N, P}
-use Rattle.planner.specs.Outcome.{check}
+use Rattle.planner.specs.Outcome.{check, firstRefusal, mostSamples}
 use Rattle.planner.specs.Facts.{Ordered}
 use Rattle.motion.specs.Direction as direction
 use Rattle.motion.specs.Tables.{rowsFrom, tableOf}
-use Rattle.motion.specs.Result.{Result, firstOf}
+use Rattle.motion.specs.Result.{Result, refused, given}
 use Rattle.motion.specs.Count.{IsCount}
 use Rattle.motion.specs.declared.Sample.{Sample}
 
 -- The intervals follow each other, and the way from the first to the last sample fits.
 pub record Playable (a b c e D : ℕ) : Type 0 where
   pub ordered : Ordered a b c e
-  pub samples : N a b c e ≤ 4096
+  pub samples : N a b c e ≤ mostSamples
   pub reach : D * P a b c e ≤ 2 ^ 60
 
 pub record SampleOf (X : ℤ) (a b c e D k : ℕ) (r : Sample) : Type 0 where
@@ -34,5 +34,5 @@ pub record PositionsIn (X : ℤ) (a b c e D : ℕ) (old new : List ℤ) : Type 0
 
 -- The same where the table has room for N+1 rows, and refusal 8 where it has not.
 pub record WritesPositions (X : ℤ) (a b c e D : ℕ) (old : List ℤ) (o : Result ℕ) (new : List ℤ) : Type 0 where
-  pub outcome-is : o ≡ firstOf (check 8 (ltb (length old) (N a b c e + 1)) ∷ []) (N a b c e + 1)
+  pub outcome-is : o ≡ firstRefusal refused (check 8 (ltb (length old) (N a b c e + 1)) ∷ []) (given (N a b c e + 1))
   pub table-is : new ≡ tableOf o (rowsFrom (direction.position X a b c e D) 0 (N a b c e + 1)) old

@@ -1,22 +1,17 @@
--- The snaps of a list of segments, sample by sample, and the code's segments.
+-- The snaps of a list of segments, and the code's segments.
 use mathlib.Core.List.{List, [], _∷_, _++_}
 use mathlib.Core.Path.{_≡_}
 use Prim.Native.Nat.{ℕ, _+_}
-use lib.IntN.{ℤ, pos}
+use lib.IntN.{ℤ}
 use lib.ListN.{drop, replicate}
 use Rattle.planner.specs.Durations as durations
-use Rattle.profile.specs.Segments.{Sign, positive, none, negative, segment, segments}
+use Rattle.profile.specs.Segments.{level, segment, segments}
 use Rattle.profile.specs.Segments as profile
 use Rattle.motion.specs.declared.segments.Durations.{Durations}
 use Rattle.motion.specs.declared.segments.Segment.{Segment}
 use Rattle.motion.specs.declared.snap.Levels.{Levels}
 
--- u in segments with +, v in those with −.
-unfoldable pub level : Sign → (u v : ℤ) → ℤ
-level positive u v = u
-level none u v = pos 0
-level negative u v = v
-
+-- The snaps sample by sample, with the levels u and v.
 unfoldable pub snapsOf : List profile.Segment → (u v : ℤ) → List ℤ
 snapsOf [] u v = []
 snapsOf (segment n sign ∷ rest) u v = replicate n (level sign u v) ++ snapsOf rest u v

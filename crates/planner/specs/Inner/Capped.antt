@@ -5,7 +5,7 @@ use Prim.Native.Nat.{ℕ, _*_, _^_, _≤_, _<_, min}
 use lib.Dec.{ltb}
 use Rattle.planner.specs.Intervals.{a, b, c, e}
 use Rattle.planner.specs.Durations.{N}
-use Rattle.planner.specs.Outcome.{Outcome, check, firstRefusal, mostSamples, samplesOf, rulePlan}
+use Rattle.planner.specs.Outcome.{Outcome, refused, check, firstRefusal, mostSamples, samplesOf, rulePlan}
 use Rattle.planner.specs.Accepted.{BoundInRange}
 
 -- The figures of a move in range, by its distance.
@@ -40,4 +40,4 @@ pub record IntervalsAgree (cap W V₀ A₀ J₀ S₀ ra rb rc re : ℕ) : Type 0
 -- What is left of the rule where refusals 1 to 6 do not apply.
 unfoldable pub planWithin : (W V₀ A₀ J₀ S₀ : ℕ) → Outcome
 planWithin W V₀ A₀ J₀ S₀ =
-    firstRefusal (check 7 (ltb mostSamples (samplesOf W V₀ A₀ J₀ S₀)) ∷ []) (rulePlan W V₀ A₀ J₀ S₀)
+    firstRefusal refused (check 7 (ltb mostSamples (samplesOf W V₀ A₀ J₀ S₀)) ∷ []) (rulePlan W V₀ A₀ J₀ S₀)

@@ -8,7 +8,7 @@ use native.Mathlib.Omega.{arith}
 use native.Mathlib.Decide.{decLe}
 use Rattle.profile.specs.Widths.{span, Spread}
 use Rattle.profile.proofs.RampLaws.{Ramp, below-top}
-use Rattle.profile.proofs.Turns.{turn, turns}
+use Rattle.profile.proofs.Delays.{delay, delays}
 
 -- f and g are at most t apart, and agree at 0 and from s on
 pub record Near (t s : ℕ) (f g : ℕ → ℕ) : Type 0 where
@@ -21,20 +21,20 @@ swap : {t s : ℕ} {f g : ℕ → ℕ} → Near t s f g → Near t s g f
 swap n = record { start = sym (n .start); above = n .below; below = n .above; rests = λ k h. sym (n .rests k h) }
 
 module _ (t s w : ℕ) (fits : s ≤ w) where
-  turn-above : (f g : ℕ → ℕ) → Near t s f g → (k : ℕ) → Dec (w ≤ k) → turn w f g k ≤ turn w g f k + t
-  turn-above f g n k (yes h) = omega (arith, n .rests k (omega arith), n .below (k - w))
-  turn-above f g n k (no h) = let before : k - w ≡ 0 = omega arith in rw before (omega (arith, n .above k, n .start))
+  delay-above : (f g : ℕ → ℕ) → Near t s f g → (k : ℕ) → Dec (w ≤ k) → delay w f g k ≤ delay w g f k + t
+  delay-above f g n k (yes h) = omega (arith, n .rests k (omega arith), n .below (k - w))
+  delay-above f g n k (no h) = let before : k - w ≡ 0 = omega arith in rw before (omega (arith, n .above k, n .start))
 
-  near-turn : (f g : ℕ → ℕ) → Near t s f g → Near t (s + w) (turn w f g) (turn w g f)
-  near-turn f g n =
+  near-delay : (f g : ℕ → ℕ) → Near t s f g → Near t (s + w) (delay w f g) (delay w g f)
+  near-delay f g n =
       record {
         start = rw zero-sub (omega (arith, n .start));
-        above = λ k. turn-above f g n k (decLe w k);
-        below = λ k. turn-above g f (swap n) k (decLe w k);
+        above = λ k. delay-above f g n k (decLe w k);
+        below = λ k. delay-above g f (swap n) k (decLe w k);
         rests = λ k h. omega (arith, n .rests k (omega arith), n .rests (k - w) (omega arith));
       }
 
-  near-ramp : (f : ℕ → ℕ) → Ramp f t s → Near t (s + w) (turn w f (λ _. 0)) (turn w (λ _. 0) f)
+  near-ramp : (f : ℕ → ℕ) → Ramp f t s → Near t (s + w) (delay w f (λ _. 0)) (delay w (λ _. 0) f)
   near-ramp f r =
       record {
         start = rw zero-sub (omega arith);
@@ -44,21 +44,21 @@ module _ (t s w : ℕ) (fits : s ≤ w) where
       }
 
 module _ {f : ℕ → ℕ} {t s : ℕ} (r : Ramp f t s) where
-  pub turns-near :
+  pub delays-near :
       (w : ℕ) (ws : List ℕ)
       → Spread s (w ∷ ws)
-      → Near t (span s (w ∷ ws)) (turns (w ∷ ws) f (λ _. 0)) (turns (w ∷ ws) (λ _. 0) f)
-  unfolding turns span Spread
-  turns-near w [] h = near-ramp t s w (h .0) f r
-  turns-near w (v ∷ ws) h =
-      near-turn t (span s (v ∷ ws)) w (h .0) (turns (v ∷ ws) f (λ _. 0)) (turns (v ∷ ws) (λ _. 0) f) (turns-near v ws (h .1))
+      → Near t (span s (w ∷ ws)) (delays (w ∷ ws) f (λ _. 0)) (delays (w ∷ ws) (λ _. 0) f)
+  unfolding delays span Spread
+  delays-near w [] h = near-ramp t s w (h .0) f r
+  delays-near w (v ∷ ws) h =
+      near-delay t (span s (v ∷ ws)) w (h .0) (delays (v ∷ ws) f (λ _. 0)) (delays (v ∷ ws) (λ _. 0) f) (delays-near v ws (h .1))
 
   -- also with no width, where f itself is within t of 0
-  pub turns-within :
+  pub delays-within :
       (ws : List ℕ)
       → Spread s ws
       → (k : ℕ)
-      → (turns ws f (λ _. 0) k ≤ turns ws (λ _. 0) f k + t) × (turns ws (λ _. 0) f k ≤ turns ws f (λ _. 0) k + t)
-  unfolding turns
-  turns-within [] h k = omega (arith, below-top r k)
-  turns-within (w ∷ ws) h k = let n = turns-near w ws h in (n .above k, n .below k)
+      → (delays ws f (λ _. 0) k ≤ delays ws (λ _. 0) f k + t) × (delays ws (λ _. 0) f k ≤ delays ws f (λ _. 0) k + t)
+  unfolding delays
+  delays-within [] h k = omega (arith, below-top r k)
+  delays-within (w ∷ ws) h k = let n = delays-near w ws h in (n .above k, n .below k)
