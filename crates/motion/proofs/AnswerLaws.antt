@@ -1,11 +1,15 @@
--- Different answers of the entries have different outcomes. Assumes nothing.
-use mathlib.Core.Path.{_≡_, refl, sym, ap}
+-- Different answers of the entries have different outcomes, so each promise leaves one answer. Assumes nothing.
+use mathlib.Core.List.{List}
+use mathlib.Core.Path.{_≡_, refl, sym, ap, _∙_}
 use Prim.Native.Nat.{ℕ}
 use native.Mathlib.Omega.{arith}
+use lib.IntN.{ℤ}
 use Rattle.planner.proofs.AnswerLaws as planner
 use Rattle.motion.specs.Result.{Result, refused, given}
-use Rattle.motion.specs.Sampling.{Values}
+use Rattle.motion.specs.Sampling.{Values, sampleWith, Samples}
+use Rattle.motion.specs.Tables.{Fills}
 use Rattle.motion.specs.Answer.{number, values, sampleOutcome, tableOutcome}
+use Rattle.motion.proofs.CountLaws.{one-count}
 use Rattle.motion.specs.declared.Sample.{Sample}
 use Rattle.motion.specs.declared.MotionRefusal.{MotionRefusal}
 use Rattle.motion.specs.declared.MotionRefusal.the-variants.{Unplanned, ShortTable, PastEnd}
@@ -57,3 +61,19 @@ table-injective (Filled x) (Filled y) h = ap Filled (same-given x y h)
 table-injective (Filled x) (NoTable y) h = absurd (apart (number y) x (sym h))
 table-injective (NoTable x) (Filled y) h = absurd (apart (number x) y h)
 table-injective (NoTable x) (NoTable y) h = ap NoTable (number-injective x y (same-number (number x) (number y) h))
+
+-- so a promise leaves one answer
+module _ {X : ℤ} {V₀ A₀ J₀ S₀ k : ℕ} where
+  pub one-outcome : {o p : Result Values} → Samples X V₀ A₀ J₀ S₀ k o → Samples X V₀ A₀ J₀ S₀ k p → o ≡ p
+  one-outcome h l =
+      h .outcome-is ∙ ap (sampleWith X V₀ A₀ J₀ S₀ k) (one-count _ _ _ (h .count-is) (l .count-is)) ∙ sym (l .outcome-is)
+
+  pub one-sample-answer : (x y : SampleAnswer) → Samples X V₀ A₀ J₀ S₀ k (sampleOutcome x) → Samples X V₀ A₀ J₀ S₀ k (sampleOutcome y) → x ≡ y
+  one-sample-answer x y h l = sample-injective x y (one-outcome h l)
+
+pub one-table-answer :
+    {X : ℤ} {V₀ A₀ J₀ S₀ rows : ℕ} {row : ℕ → ℤ} {old new new′ : List ℤ} (x y : TableAnswer)
+    → Fills X V₀ A₀ J₀ S₀ rows row old (tableOutcome x) new
+    → Fills X V₀ A₀ J₀ S₀ rows row old (tableOutcome y) new′
+    → (x ≡ y) × (new ≡ new′)
+one-table-answer x y h l = (table-injective x y (h .outcome-is ∙ sym (l .outcome-is)), h .table-is ∙ sym (l .table-is))

@@ -23,7 +23,7 @@ use Rattle.planner.proofs.PlannedFacts.{answer-facts}
 use Rattle.motion.specs.Direction as direction
 use Rattle.motion.specs.Values as value
 use Rattle.motion.specs.Result.{refused, given, resultOf}
-use Rattle.motion.specs.Inner.Planned.{Playable}
+use Rattle.motion.specs.Inner.Planned.{WithinRange}
 
 -- an answer that is a refusal holds no plan
 pub not-planned : {r : PlanAnswer} {x : Refusal} → r ≡ Refused x → IsPlanned (outcome r) → ⊥
@@ -64,8 +64,8 @@ module _ {X : ℤ} {V₀ A₀ J₀ S₀ a b c e D short : ℕ} (h : Entered X V�
   unfolding distance
   far = mul-le-mul-left unitsPerCount (rules .accepted .in-range .near)
 
-  pub playable : Playable a b c e D
-  playable =
+  pub within-range : WithinRange a b c e D
+  within-range =
       record {
         ordered = rules .ordered;
         samples = rules .samples;

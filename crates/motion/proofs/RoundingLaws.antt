@@ -2,7 +2,7 @@
 use mathlib.Core.Bool.{Bool, true, false, true≢false}
 use mathlib.Core.Path.{_≡_, refl, sym, ap, subst}
 use Prim.Native.Nat.{ℕ, zero, suc, _+_, _*_, _/_, _%_, _≤_, _<_, _^_}
-use native.Mathlib.Nat.{mod-lt, div-add-mod}
+use native.Mathlib.Nat.{mod-lt, div-add-mod, le-refl, le-trans, lt-of-lt-of-le}
 use native.Mathlib.Numerals.{add-one}
 use native.Mathlib.Omega.{arith}
 use borrow.Author.Tests.{leb-true, leb-false}
@@ -29,40 +29,43 @@ rounds-up n h = above-half n (n / unitsPerCount) (n % unitsPerCount) (parts n) (
 rounds-down : (n : ℕ) → n % unitsPerCount < half → IsCount (pos n) (pos (n / unitsPerCount))
 rounds-down n h = below-half n (n / unitsPerCount) (n % unitsPerCount) (parts n) (omega arith)
 
--- the tests of the remainder of a negative position
-not-above : (r : ℕ) → leZ (pos half) (negℤ (pos r)) ≡ true → ⊥
-not-above zero h = omega (arith, leb-true half 0 h)
-not-above (suc r) h = true≢false (sym h)
+-- the tests of the remainder of a negative position, with any threshold at least, or at most, half a count
+not-above : (t r : ℕ) → half ≤ t → leZ (pos t) (negℤ (pos r)) ≡ true → ⊥
+not-above t zero l h = omega (arith, leb-true t 0 h)
+not-above t (suc r) l h = true≢false (sym h)
 
-far : (r : ℕ) → leZ (negℤ (pos r)) (negsuc 549755813887) ≡ true → half ≤ r
-far zero h = absurd (true≢false (sym h))
-far (suc r) h = omega (arith, leb-true 549755813887 r h)
+far : (m r : ℕ) → half ≤ suc m → leZ (negℤ (pos r)) (negsuc m) ≡ true → half ≤ r
+far m zero l h = absurd (true≢false (sym h))
+far m (suc r) l h = omega (arith, leb-true m r h)
 
-close : (r : ℕ) → leZ (negℤ (pos r)) (negsuc 549755813887) ≡ false → r < half
-close zero h = omega arith
-close (suc r) h = omega (arith, leb-false 549755813887 r h)
+close : (m r : ℕ) → suc m ≤ half → leZ (negℤ (pos r)) (negsuc m) ≡ false → r < half
+close m zero l h = omega arith
+close m (suc r) l h = omega (arith, leb-false m r h)
 
 one-less : (q : ℕ) → negsuc q ≡ negℤ (pos q) -ℤ pos 1
 one-less zero = refl
 one-less (suc q) = ap negsuc (omega arith)
 
-pub up : (x : ℤ) → leZ (pos half) (remZ x (pos unitsPerCount)) ≡ true → IsCount x (quotZ x (pos unitsPerCount) +ℤ pos 1)
-up (pos n) h = rw (add-one (n / unitsPerCount)) (rounds-up n (leb-true half (n % unitsPerCount) h))
-up (negsuc n) h = absurd (not-above (suc n % unitsPerCount) h)
+pub up : (x : ℤ) (t : ℕ) → leZ (pos t) (remZ x (pos unitsPerCount)) ≡ true → half ≤ t → IsCount x (quotZ x (pos unitsPerCount) +ℤ pos 1)
+up (pos n) t h l = rw (add-one (n / unitsPerCount)) (rounds-up n (le-trans l (leb-true t (n % unitsPerCount) h)))
+up (negsuc n) t h l = absurd (not-above t (suc n % unitsPerCount) l h)
 
-pub down : (x : ℤ) → leZ (remZ x (pos unitsPerCount)) (negsuc 549755813887) ≡ true → IsCount x (quotZ x (pos unitsPerCount) -ℤ pos 1)
-down (pos n) h = absurd (true≢false (sym h))
-down (negsuc n) h =
+pub down : (x : ℤ) (m : ℕ) → leZ (remZ x (pos unitsPerCount)) (negsuc m) ≡ true → half ≤ suc m → IsCount x (quotZ x (pos unitsPerCount) -ℤ pos 1)
+down (pos n) m h l = absurd (true≢false (sym h))
+down (negsuc n) m h l =
     subst (IsCount (negsuc n)) (one-less (suc n / unitsPerCount))
-    (mirrored (pos (suc n)) (pos (suc (suc n / unitsPerCount))) (rounds-up (suc n) (far (suc n % unitsPerCount) h)))
+    (mirrored (pos (suc n)) (pos (suc (suc n / unitsPerCount))) (rounds-up (suc n) (far m (suc n % unitsPerCount) l h)))
 
 pub stay :
-    (x : ℤ)
-    → leZ (pos half) (remZ x (pos unitsPerCount)) ≡ false
-    → leZ (remZ x (pos unitsPerCount)) (negsuc 549755813887) ≡ false
+    (x : ℤ) (t m : ℕ)
+    → leZ (pos t) (remZ x (pos unitsPerCount)) ≡ false
+    → leZ (remZ x (pos unitsPerCount)) (negsuc m) ≡ false
+    → t ≤ half
+    → suc m ≤ half
     → IsCount x (quotZ x (pos unitsPerCount))
-stay (pos n) h k = rounds-down n (leb-false half (n % unitsPerCount) h)
-stay (negsuc n) h k = mirrored (pos (suc n)) (pos (suc n / unitsPerCount)) (rounds-down (suc n) (close (suc n % unitsPerCount) k))
+stay (pos n) t m h k u l = rounds-down n (lt-of-lt-of-le (leb-false t (n % unitsPerCount) h) u)
+stay (negsuc n) t m h k u l =
+    mirrored (pos (suc n)) (pos (suc n / unitsPerCount)) (rounds-down (suc n) (close m (suc n % unitsPerCount) l k))
 
 -- no step of the rounding leaves the range
 small-quotient : (n m : ℕ) → unitsPerCount * m ≤ n + 1 → mag (negℤ (pos m)) ≤ n
@@ -90,9 +93,9 @@ by-test :
     (s : Bool) → leZ (pos half) (remZ x (pos unitsPerCount)) ≡ s
     → (t : Bool) → leZ (remZ x (pos unitsPerCount)) (negsuc 549755813887) ≡ t
     → HasCount x
-by-test x true h t k = record { count = quotZ x (pos unitsPerCount) +ℤ pos 1; is = up x h }
-by-test x false h true k = record { count = quotZ x (pos unitsPerCount) -ℤ pos 1; is = down x k }
-by-test x false h false k = record { count = quotZ x (pos unitsPerCount); is = stay x h k }
+by-test x true h t k = record { count = quotZ x (pos unitsPerCount) +ℤ pos 1; is = up x half h (le-refl half) }
+by-test x false h true k = record { count = quotZ x (pos unitsPerCount) -ℤ pos 1; is = down x 549755813887 k (le-refl half) }
+by-test x false h false k = record { count = quotZ x (pos unitsPerCount); is = stay x half 549755813887 h k (le-refl half) (le-refl half) }
 
 pub count-of : (x : ℤ) → HasCount x
 count-of x = by-test x (leZ (pos half) (remZ x (pos unitsPerCount))) refl (leZ (remZ x (pos unitsPerCount)) (negsuc 549755813887)) refl

@@ -11,20 +11,20 @@ use Rattle.motion.specs.Inner.Steps.{stepped, StepFits}
 use Rattle.motion.specs.Inner.Runs.{after, stored, StepsFit, CanRun, Ran}
 
 -- what is left to do: the steps xs from the state s, on this table, come to the same as those that were asked for
-pub record Left (xs : List ℤ) (s : State) (table : List ℤ) (ys : List ℤ) (s₀ : State) (table₀ : List ℤ) : Type 0 where
+pub record Remaining (xs : List ℤ) (s : State) (table : List ℤ) (ys : List ℤ) (s₀ : State) (table₀ : List ℤ) : Type 0 where
   pub can : CanRun xs s (length table)
   pub same-length : length table ≡ length table₀
   pub table-is : stored xs s table ≡ stored ys s₀ table₀
   pub end-is : after xs s ≡ after ys s₀
 
-pub all-left : {xs : List ℤ} {s : State} {table : List ℤ} → CanRun xs s (length table) → Left xs s table xs s table
+pub all-left : {xs : List ℤ} {s : State} {table : List ℤ} → CanRun xs s (length table) → Remaining xs s table xs s table
 all-left h = record { can = h; same-length = refl; table-is = refl; end-is = refl }
 
 module _ {ys : List ℤ} {s₀ : State} {table₀ : List ℤ} where
   pub one-done :
       {x : ℤ} {xs : List ℤ} {s : State} {table : List ℤ}
-      → Left (x ∷ xs) s table ys s₀ table₀
-      → Left xs (stepped s x) (set table (s .sample) (s .position)) ys s₀ table₀
+      → Remaining (x ∷ xs) s table ys s₀ table₀
+      → Remaining xs (stepped s x) (set table (s .sample) (s .position)) ys s₀ table₀
   unfolding after stored StepsFit
   one-done {x} {xs} {s} {table} h =
       record {
@@ -38,11 +38,11 @@ module _ {ys : List ℤ} {s₀ : State} {table₀ : List ℤ} where
         end-is = h .end-is;
       }
 
-  pub first-fits : {x : ℤ} {xs : List ℤ} {s : State} {table : List ℤ} → Left (x ∷ xs) s table ys s₀ table₀ → StepFits s x
+  pub first-fits : {x : ℤ} {xs : List ℤ} {s : State} {table : List ℤ} → Remaining (x ∷ xs) s table ys s₀ table₀ → StepFits s x
   unfolding StepsFit
   first-fits h = h .can .fits .0
 
-  pub none-left : {s : State} {table : List ℤ} → Left [] s table ys s₀ table₀ → Ran ys s₀ table₀ table s
+  pub none-left : {s : State} {table : List ℤ} → Remaining [] s table ys s₀ table₀ → Ran ys s₀ table₀ table s
   unfolding after stored
   none-left h = record { table-is = h .table-is; end-is = h .end-is }
 
@@ -50,14 +50,14 @@ module _ {ys : List ℤ} {s₀ : State} {table₀ : List ℤ} where
   pub one-of :
       (n : ℕ) (x : ℤ) {s : State} {table : List ℤ}
       → 0 < n
-      → Left (replicate n x) s table ys s₀ table₀
-      → Left (x ∷ replicate (n - 1) x) s table ys s₀ table₀
+      → Remaining (replicate n x) s table ys s₀ table₀
+      → Remaining (x ∷ replicate (n - 1) x) s table ys s₀ table₀
   one-of zero x l h = absurd (not-suc-le-zero l)
   one-of (suc n) x {s} {table} l h =
       let one : n ≡ suc n - 1 = omega arith in
-      subst (λ (m : ℕ). Left (x ∷ replicate m x) s table ys s₀ table₀) one h
+      subst (λ (m : ℕ). Remaining (x ∷ replicate m x) s table ys s₀ table₀) one h
 
-  pub none-of : (n : ℕ) (x : ℤ) {s : State} {table : List ℤ} → n ≤ 0 → Left (replicate n x) s table ys s₀ table₀ → Ran ys s₀ table₀ table s
+  pub none-of : (n : ℕ) (x : ℤ) {s : State} {table : List ℤ} → n ≤ 0 → Remaining (replicate n x) s table ys s₀ table₀ → Ran ys s₀ table₀ table s
   none-of zero x l h = none-left h
   none-of (suc n) x l h = absurd (not-suc-le-zero l)
 
@@ -98,23 +98,12 @@ pub can-back : (xs ys : List ℤ) {s : State} {n : ℕ} → CanRun (xs ++ ys) s 
 can-back xs ys {s} h =
     record { room = omega (arith, h .room, length-append xs ys, sample-after xs s); fits = fits-parted xs ys s (h .fits) .1 }
 
-pub ran-joined :
-    {xs ys : List ℤ} {s t u : State} {first second third : List ℤ}
-    → Ran xs s first second t
-    → Ran ys t second third u
-    → Ran (xs ++ ys) s first third u
-ran-joined {xs} {ys} {s} {t} {u} {first} h k =
-    record {
-      table-is = k .table-is ∙ ap₂ (stored ys) (h .end-is) (h .table-is) ∙ sym (stored-joined xs ys s first);
-      end-is = k .end-is ∙ ap (after ys) (h .end-is) ∙ sym (after-joined xs ys s);
-    }
-
 -- the first part of what is left
-module _ (xs ys : List ℤ) {zs : List ℤ} {s s₀ : State} {table table₀ : List ℤ} (h : Left (xs ++ ys) s table zs s₀ table₀) where
+module _ (xs ys : List ℤ) {zs : List ℤ} {s s₀ : State} {table table₀ : List ℤ} (h : Remaining (xs ++ ys) s table zs s₀ table₀) where
   pub can-part : CanRun xs s (length table)
   can-part = can-front xs ys (h .can)
 
-  pub part-done : {t : State} {new : List ℤ} → Ran xs s table new t → Left ys t new zs s₀ table₀
+  pub part-done : {t : State} {new : List ℤ} → Ran xs s table new t → Remaining ys t new zs s₀ table₀
   part-done {t} {new} r =
       record {
         can = rw (ran-length r, r .end-is) (can-back xs ys (h .can));

@@ -18,7 +18,7 @@ use Rattle.motion.specs.Direction as direction
 use Rattle.motion.specs.Direction.{along}
 use Rattle.motion.specs.declared.state.State.{State}
 use Rattle.motion.specs.Inner.Steps.{StepFits, stateAt}
-use Rattle.motion.specs.Inner.Planned.{Playable}
+use Rattle.motion.specs.Inner.Planned.{WithinRange}
 use Rattle.motion.proofs.IntegerLaws.{size-negated}
 use Rattle.profile.proofs.SumLaws.{sums-negated}
 use Rattle.profile.proofs.FourthOrder.{spread, fourth-order}
@@ -61,7 +61,7 @@ module _ (X : ℤ) (a b c e D : ℕ) where
   unfolding direction.jerk direction.acceleration direction.velocity direction.position profile.jerk profile.acceleration profile.velocity profile.position sums
   state-is k = λ i. record { sample = k; jerk = sums-are 1 k i; acceleration = sums-are 2 k i; velocity = sums-are 3 k i; position = sums-are 4 k i }
 
-module _ (X : ℤ) (a b c e D : ℕ) (h : Playable a b c e D) where
+module _ (X : ℤ) (a b c e D : ℕ) (h : WithinRange a b c e D) where
   -- every size on the way is at most the last position
   below : (m : ℕ) (outer inner : List ℕ) → outer ++ inner ≡ e ∷ c ∷ b ∷ [] → m ≤ D * product a inner → m ≤ 2 ^ 60
   unfolding product

@@ -24,13 +24,13 @@ use Rattle.motion.specs.Inner.Steps.{rest}
 use Rattle.motion.specs.Inner.Runs.{CanRun, Ran}
 use Rattle.motion.specs.Inner.SnapLevels.{AreLevels}
 use Rattle.motion.specs.Inner.SegmentSnaps.{snapsOf, IsDurations, fifteenOf, NextSegment}
-use Rattle.motion.specs.Inner.Planned.{Playable, PositionsIn}
+use Rattle.motion.specs.Inner.Planned.{WithinRange, PositionsIn}
 use Rattle.motion.proofs.DirectionLaws.{along-zero}
 use Rattle.motion.proofs.ListedLaws.{Listed, directedSnaps, length-snaps, listed, listed-joined}
 use Rattle.motion.proofs.RowLaws.{steps-fit, stored-rows}
 use Rattle.motion.proofs.StateLaws.{state-is, step-fits}
 
-module _ (X : ℤ) (a b c e D : ℕ) (h : Playable a b c e D) where
+module _ (X : ℤ) (a b c e D : ℕ) (h : WithinRange a b c e D) where
   abbrev all : List Segment
   all = segments (p a) (q a b) (r a b c) (s a b c e)
 
@@ -79,20 +79,20 @@ module _ (X : ℤ) (a b c e D : ℕ) (h : Playable a b c e D) where
 
 -- what is left of the run from segment i on
 module _ (d : Durations) (levels : Levels) where
-  abbrev pub todo : ℕ → List ℤ
-  todo i = snapsOf (drop i (fifteenOf d)) (levels .up) (levels .down) ++ (pos 0 ∷ [])
+  abbrev pub snapsFrom : ℕ → List ℤ
+  snapsFrom i = snapsOf (drop i (fifteenOf d)) (levels .up) (levels .down) ++ (pos 0 ∷ [])
 
-  pub one-segment : {i : ℕ} {g : code.Segment} → NextSegment d levels i g → todo i ≡ replicate (g .samples) (g .snap) ++ todo (i + 1)
+  pub one-segment : {i : ℕ} {g : code.Segment} → NextSegment d levels i g → snapsFrom i ≡ replicate (g .samples) (g .snap) ++ snapsFrom (i + 1)
   one-segment {i} {g} h =
       ap (λ (xs : List ℤ). xs ++ (pos 0 ∷ [])) (h .splits) ∙ append-assoc (replicate (g .samples) (g .snap)) _ (pos 0 ∷ [])
 
-  pub last-row : {i : ℕ} → i ≡ 15 → todo i ≡ pos 0 ∷ []
+  pub last-row : {i : ℕ} → i ≡ 15 → snapsFrom i ≡ pos 0 ∷ []
   unfolding segments snapsOf
-  last-row q = ap todo q
+  last-row q = ap snapsFrom q
 
   pub whole-run :
-      {X : ℤ} {a b c e D : ℕ} (h : Playable a b c e D)
+      {X : ℤ} {a b c e D : ℕ} (h : WithinRange a b c e D)
       → IsDurations a b c e d
       → AreLevels X D levels
-      → todo 0 ≡ run X a b c e D h
+      → snapsFrom 0 ≡ run X a b c e D h
   whole-run {X} {a} {b} {c} {e} {D} h i l = rw (l .up-is, l .down-is, i .p-is, i .q-is, i .r-is, i .s-is) refl

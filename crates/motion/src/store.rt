@@ -1,4 +1,4 @@
-// One segment of a table of positions: the only loop, four additions a sample.
+// The inner loop of a table: one segment, with four additions a sample.
 use crate::state::State;
 use crate::state::step;
 ghost use lib.ListN.{replicate};

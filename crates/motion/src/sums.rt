@@ -14,7 +14,7 @@ ghost use Rattle.planner.specs.Durations.{N};
 ghost use mathlib.Core.List.{[], _∷_};
 ghost use Rattle.profile.specs.Widths.{snapBy};
 ghost use Rattle.motion.specs.Inner.Steps.{stateAt, StepsFitBy};
-ghost use Rattle.motion.specs.Inner.Planned.{Playable, SampleOf};
+ghost use Rattle.motion.specs.Inner.Planned.{WithinRange, SampleOf};
 
 // The state at sample k.
 fn sum_to(plan: Plan, levels: Levels, k: u64) -> State
@@ -31,7 +31,7 @@ fn sum_to(plan: Plan, levels: Levels, k: u64) -> State
 
 // The values at sample k.
 pub(crate) fn sample_in_plan(displacement: i64, plan: Plan, k: u64) -> Sample
-    requires { ⌜ Playable (plan .a) (plan .b) (plan .c) (plan .e) (plan .snap) ⌝ }
+    requires { ⌜ WithinRange (plan .a) (plan .b) (plan .c) (plan .e) (plan .snap) ⌝ }
     requires { ⌜ k ≤ N (plan .a) (plan .b) (plan .c) (plan .e) ⌝ }
     ensures { λ r. ⌜ SampleOf displacement (plan .a) (plan .b) (plan .c) (plan .e) (plan .snap) k r ⌝ }
 {

@@ -3,7 +3,7 @@ use borrow.Author.Needs.{needs}
 use mir.Syntax.{w64}
 use mir.Facts.{toZ-ofZ}
 use Rattle.motion.specs.Tables.{referenceRow, referenceRows, FillsReference}
-use Rattle.motion.proofs.EntryLaws.{entered, not-planned, playable, rows-are, position-is}
+use Rattle.motion.proofs.EntryLaws.{entered, not-planned, within-range, rows-are, position-is}
 use Rattle.motion.proofs.FillLaws.{fills-refused, fills}
 use Rattle.motion.proofs.fill_reference.Statement.{statement}
 use Rattle.motion.proofs.fill_reference.Tie as tie
@@ -27,7 +27,7 @@ returns c = fills-refused (c .before .before .before .plan-move .ensures) (c .un
 write-positions-requires : tie.Need-write-positions-requires
 write-positions-requires c κs =
     let d = c .before .before .before in
-    playable (entered (d .before .before .plan-move .ensures) (d .answer .given .1))
+    within-range (entered (d .before .before .plan-move .ensures) (d .answer .given .1))
 
 same-length : tie.Need-same-length
 same-length c = search needs

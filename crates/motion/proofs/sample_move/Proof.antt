@@ -2,7 +2,7 @@
 use borrow.Author.Needs.{needs}
 use mir.Syntax.{w64}
 use mir.Facts.{toZ-ofZ}
-use Rattle.motion.proofs.EntryLaws.{PlannedAs, entered, not-planned, playable}
+use Rattle.motion.proofs.EntryLaws.{PlannedAs, entered, not-planned, within-range}
 use Rattle.motion.proofs.SamplingLaws.{sample-refused, sample-past, sample-given}
 use Rattle.motion.proofs.sample_move.Statement.{statement}
 use Rattle.motion.proofs.sample_move.Tie as tie
@@ -27,13 +27,13 @@ plan : (c : tie.After-answer) → PlannedAs (c .before .before .before .args .m)
 plan c = entered (c .before .before .plan-move .ensures) (c .answer .given .1)
 
 samples-in-plan-requires : tie.Need-samples-in-plan-requires
-samples-in-plan-requires c κs = playable (plan (c .before))
+samples-in-plan-requires c κs = within-range (plan (c .before))
 
 returns-2 : tie.Need-returns-2
 returns-2 c = sample-past (plan (c .before .before .before)) (rw (c .before .samples-in-plan .ensures) at (c .if1 .taken))
 
 sample-in-plan-requires : tie.Need-sample-in-plan-requires
-sample-in-plan-requires c κs = (playable (plan (c .before .before .before .before)), rw (c .before .before .samples-in-plan .ensures) at (c .before .if1 .left))
+sample-in-plan-requires c κs = (within-range (plan (c .before .before .before .before)), rw (c .before .before .samples-in-plan .ensures) at (c .before .if1 .left))
 
 returns-3 : tie.Need-returns-3
 returns-3 c =

@@ -15,7 +15,7 @@ use Rattle.motion.specs.Count.{IsCount}
 use Rattle.motion.specs.declared.Sample.{Sample}
 
 -- The intervals follow each other, and the way from the first to the last sample fits.
-pub record Playable (a b c e D : ℕ) : Type 0 where
+pub record WithinRange (a b c e D : ℕ) : Type 0 where
   pub ordered : Ordered a b c e
   pub samples : N a b c e ≤ mostSamples
   pub reach : D * P a b c e ≤ 2 ^ 60

@@ -1,15 +1,15 @@
 -- `nearest_count` meets its contract: the tests of the remainder say which count is the nearest. Assumes nothing.
-use mathlib.Core.Path.{_≡_, sym, ap, _∙_}
+use mathlib.Core.Path.{_≡_}
 use native.Mathlib.Omega.{arith}
 use mir.Syntax.{w64}
 use mir.Val.{toZ, ofZ, SFits}
 use mir.ValLaws.{sfits-le}
 use mir.Facts.{toZ-ofZ}
-use lib.IntN.{ℤ, pos, negsuc, _+ℤ_, _-ℤ_}
-use lib.Signed.{leZ, quotZ, remZ, mag-rem}
+use lib.IntN.{ℤ, pos, _+ℤ_, _-ℤ_}
+use lib.Signed.{quotZ, remZ, mag-rem}
 use Rattle.planner.specs.Quantities.{unitsPerCount}
 use Rattle.motion.specs.Count.{IsCount}
-use Rattle.motion.proofs.RoundingLaws.{half, up, down, stay, quotient-fits, count-fits}
+use Rattle.motion.proofs.RoundingLaws.{up, down, stay, quotient-fits, count-fits}
 use Rattle.motion.proofs.count.nearest_count.Statement.{statement}
 use Rattle.motion.proofs.count.nearest_count.Tie as tie
 
@@ -24,12 +24,14 @@ module _ (x : ℤ) (h : SFits w64 x) where
 above : (c : tie.Then1) → IsCount (c .before .args .position) (quotZ (c .before .args .position) (pos unitsPerCount) +ℤ pos 1)
 above c =
     let x = c .before .args .position in
-    up x (sym (ap (leZ (pos half)) (rest x (c .before .fits .position))) ∙ c .if1 .taken)
+    let test = rw (rest x (c .before .fits .position)) at (c .if1 .taken) in
+    up x _ test (omega arith)
 
 below : (c : tie.Then2) → IsCount (c .before .before .args .position) (quotZ (c .before .before .args .position) (pos unitsPerCount) -ℤ pos 1)
 below c =
     let x = c .before .before .args .position in
-    down x (sym (ap (λ z. leZ z (negsuc 549755813887)) (rest x (c .before .before .fits .position))) ∙ c .if2 .taken)
+    let test = rw (rest x (c .before .before .fits .position)) at (c .if2 .taken) in
+    down x _ test (omega arith)
 
 div-whole : tie.Need-div-whole
 div-whole c = rw (toZ-ofZ (c .fits .position)) (omega arith, quotient-fits (c .args .position) (c .fits .position))
@@ -66,8 +68,7 @@ returns-3 c =
     let x = c .before .before .args .position in
     let h = c .before .before .fits .position in
     rw (whole x h)
-    (stay x (sym (ap (leZ (pos half)) (rest x h)) ∙ c .before .if1 .left)
-    (sym (ap (λ z. leZ z (negsuc 549755813887)) (rest x h)) ∙ c .if2 .left))
+    (stay x _ _ (rw (rest x h) at (c .before .if1 .left)) (rw (rest x h) at (c .if2 .left)) (omega arith) (omega arith))
 
 pub nearest-count-spec : {M : Type 1} → statement M
 nearest-count-spec =

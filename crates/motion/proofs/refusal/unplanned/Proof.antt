@@ -1,3 +1,4 @@
+-- `unplanned` meets its contract: its second arm is not reached. Assumes nothing.
 use mathlib.Core.Path.{sym, ap, subst}
 use Rattle.planner.specs.Answer.{outcome}
 use Rattle.planner.specs.Accepted.{IsPlanned}
@@ -6,19 +7,15 @@ use borrow.Author.Needs.{needs}
 use Rattle.motion.proofs.refusal.unplanned.Statement.{statement}
 use Rattle.motion.proofs.refusal.unplanned.Tie as tie
 
--- src/refusal.rt:16:29
 enum-known-answer : tie.Need-enum-known-answer
 enum-known-answer c = search needs
 
--- src/refusal.rt:17:29
 enum-known-answer-2 : tie.Need-enum-known-answer-2
 enum-known-answer-2 c = search needs
 
--- src/refusal.rt:11:1
 returns : tie.Need-returns
 returns c = ap outcome (c .before .answer .given .1)
 
--- src/refusal.rt:11:1
 returns-2 : tie.Need-returns-2
 returns-2 c =
     absurd (c .before .before .before .pre (subst (λ (x : PlanAnswer). IsPlanned (outcome x)) (sym (c .before .answer2 .given .1)) tt))

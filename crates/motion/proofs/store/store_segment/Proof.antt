@@ -10,13 +10,13 @@ use lib.IntN.{ℤ}
 use lib.ListN.{replicate, length}
 use Rattle.motion.specs.declared.state.State.{State}
 use Rattle.motion.specs.Inner.Runs.{Ran}
-use Rattle.motion.proofs.RunLaws.{Left, all-left, one-done, one-of, first-fits, none-of, ran-length}
+use Rattle.motion.proofs.RunLaws.{Remaining, all-left, one-done, one-of, first-fits, none-of, ran-length}
 use Rattle.motion.proofs.store.store_segment.Statement.{statement}
 use Rattle.motion.proofs.store.store_segment.Tie as tie
 
 abbrev Inv-loop : tie.InvT-loop
 Inv-loop table₀ count snap current₀ left₀ table current left =
-    Left (replicate left (toZ w64 snap)) current table (replicate count (toZ w64 snap)) current₀ table₀
+    Remaining (replicate left (toZ w64 snap)) current table (replicate count (toZ w64 snap)) current₀ table₀
 
 abbrev μ-loop : tie.MeasureT-loop
 μ-loop table₀ count snap current₀ left₀ table current left = left
@@ -29,7 +29,7 @@ abbrev snap : tie.Start Inv-loop μ-loop → ℤ
 snap d = toZ w64 (ofZ w64 (d .args .snap))
 
 abbrev Remains : tie.Start Inv-loop μ-loop → List ℤ → State → List ℤ → Type 0
-Remains d xs state table = Left xs state table (replicate (d .args .count) (snap d)) (d .args .state) (d .args .table .now)
+Remains d xs state table = Remaining xs state table (replicate (d .args .count) (snap d)) (d .args .state) (d .args .table .now)
 
 -- there is a snap left
 begun :

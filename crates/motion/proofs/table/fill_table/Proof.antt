@@ -2,7 +2,6 @@
 use mathlib.Core.List.{List, [], _∷_, _++_}
 use mathlib.Core.Path.{_≡_, subst}
 use Prim.Native.Nat.{ℕ, _+_, _-_, _≤_}
-use native.Mathlib.Nat.{le-antisymm}
 use native.Mathlib.Omega.{arith}
 use mir.Syntax.{w64}
 use mir.Val.{toZ, ofZ}
@@ -13,14 +12,14 @@ use Rattle.motion.specs.declared.state.State.{State}
 use Rattle.motion.specs.Inner.SnapLevels.{AreLevels}
 use Rattle.motion.specs.Inner.Runs.{Ran}
 use Rattle.motion.proofs.StateLaws.{snap-small}
-use Rattle.motion.proofs.RunLaws.{Left, all-left, can-part, part-done, none-left, ran-length}
-use Rattle.motion.proofs.TableLaws.{run, can-run, positions-in, todo, one-segment, last-row, whole-run}
+use Rattle.motion.proofs.RunLaws.{Remaining, all-left, can-part, part-done, none-left, ran-length}
+use Rattle.motion.proofs.TableLaws.{run, can-run, positions-in, snapsFrom, one-segment, last-row, whole-run}
 use Rattle.motion.proofs.table.fill_table.Statement.{statement}
 use Rattle.motion.proofs.table.fill_table.Tie as tie
 
 abbrev Inv-loop : tie.InvT-loop
 Inv-loop table₀ displacement levels durations state₀ i₀ table state i =
-    (i ≤ 15) × Left (todo durations levels i) state table (todo durations levels 0) state₀ table₀
+    (i ≤ 15) × Remaining (snapsFrom durations levels i) state table (snapsFrom durations levels 0) state₀ table₀
 
 abbrev μ-loop : tie.MeasureT-loop
 μ-loop table₀ displacement levels durations state₀ i₀ table state i = 15 - i
@@ -37,7 +36,7 @@ at-rest-requires c κs = tt
 -- the segments are those of the plan
 all :
     (c : tie.After-durations-of Inv-loop μ-loop)
-    → todo (c .durations-of .result) (c .before .levels-of .result) 0 ≡ run (c .before .before .args .displacement) _ _ _ _ _ (c .before .before .pre .0)
+    → snapsFrom (c .durations-of .result) (c .before .levels-of .result) 0 ≡ run (c .before .before .args .displacement) _ _ _ _ _ (c .before .before .pre .0)
 all c =
     let a = c .before .before .args in
     let back = toZ-ofZ {w = w64} {z = a .displacement} (c .before .before .fits .displacement) in
@@ -46,10 +45,10 @@ all c =
 
 -- what is left of the run from segment i on, and that it comes to the same as the whole
 abbrev after : tie.After-at-rest Inv-loop μ-loop → ℕ → List ℤ
-after d i = todo (d .before .durations-of .result) (d .before .before .levels-of .result) i
+after d i = snapsFrom (d .before .durations-of .result) (d .before .before .levels-of .result) i
 
 abbrev Remains : tie.After-at-rest Inv-loop μ-loop → List ℤ → State → List ℤ → Type 0
-Remains d xs state table = Left xs state table (after d 0) (d .at-rest .result) (d .before .before .before .args .table .now)
+Remains d xs state table = Remaining xs state table (after d 0) (d .at-rest .result) (d .before .before .before .args .table .now)
 
 loop-holds : tie.Need-loop-holds Inv-loop μ-loop
 loop-holds c =
@@ -57,7 +56,7 @@ loop-holds c =
     (omega arith, all-left (rw (all (c .before), c .at-rest .ensures) (can-run (d .args .displacement) _ _ _ _ _ (d .pre .0) (d .pre .1))))
 
 segment-at-requires : tie.Need-segment-at-requires Inv-loop μ-loop
-segment-at-requires c κs = c .loop-test .taken
+segment-at-requires c κs = omega arith
 
 -- one segment, and what is left after it
 parted :
@@ -85,16 +84,18 @@ loop-again c = (omega arith, part-done _ _ (parted (c .before .before)) (c .befo
 
 -- only the last row is left
 ended : (c : tie.After-loop Inv-loop μ-loop) → Remains (c .before .before) (pos 0 ∷ []) (c .before .loop .state) (c .before .loop .table)
-ended c = rw (last-row _ _ (le-antisymm (c .before .loop .inv .0) (c .loop-test .left))) at (c .before .loop .inv .1)
+ended c =
+    let all-done : c .before .loop .i ≡ 15 = omega arith in
+    rw (last-row _ _ all-done) at (c .before .loop .inv .1)
 
 store-segment-requires-2 : tie.Need-store-segment-requires-2 Inv-loop μ-loop
-store-segment-requires-2 c κs = ended (c .before) .can
+store-segment-requires-2 c κs = can-part _ _ (ended (c .before))
 
 ran :
     (c : tie.After-table2 Inv-loop μ-loop)
     → let d = c .before .before .before .before .before in
     Ran (after d 0) (d .at-rest .result) (d .before .before .before .args .table .now) (c .before .store-segment2 .last .0) (c .before .store-segment2 .result)
-ran c = none-left (part-done (pos 0 ∷ []) [] (ended (c .before .before .before)) (c .before .store-segment2 .ensures))
+ran c = none-left (part-done _ _ (ended (c .before .before .before)) (c .before .store-segment2 .ensures))
 
 same-length : tie.Need-same-length Inv-loop μ-loop
 same-length c = ran-length (ran c)

@@ -1,6 +1,7 @@
 -- `write_positions` meets its contract. Assumes nothing.
 use mathlib.Core.Path.{sym, subst}
 use Prim.Native.Nat.{ℕ, _+_}
+use native.Mathlib.Omega.{arith}
 use mir.Syntax.{w64}
 use mir.Facts.{toZ-ofZ}
 use Rattle.motion.specs.Result.{given}
@@ -17,7 +18,7 @@ add-rows : tie.Need-add-rows
 add-rows c = search needs
 
 returns : tie.Need-returns
-returns c = short _ _ _ _ _ _ _ (rw (c .before .samples-in-plan .ensures) at (c .if1 .taken))
+returns c = short _ _ _ _ _ _ _ (omega (arith, c .if1 .taken, c .before .samples-in-plan .ensures))
 
 fill-table-requires : tie.Need-fill-table-requires
 fill-table-requires c κs = search needs
