@@ -11,7 +11,7 @@ mod state;
 pub use counts::nearest_count;
 pub use position_table::position_table;
 pub use reference_table::reference_table;
-pub use sample::{sample, SampleAnswer};
+pub use sample::{sample, Sample, SampleAnswer};
 pub use segments::{Segment, SEGMENT_COUNT};
 pub use state::State;
 

@@ -33,14 +33,11 @@ fn parsed(line: &str) -> (char, Move, u64, u64) {
 fn sample_line(motion: &Move, k: u64) -> String {
     match sample(motion, k) {
         SampleAnswer::Refused(number) => format!("refused {number}"),
-        SampleAnswer::Sampled {
-            snap,
-            jerk,
-            acceleration,
-            velocity,
-            position,
-            count,
-        } => format!("sample {snap} {jerk} {acceleration} {velocity} {position} {count}"),
+        SampleAnswer::Sampled(at) => {
+            let [snap, jerk, acceleration, velocity, position] = at.values();
+            let count = at.count;
+            format!("sample {snap} {jerk} {acceleration} {velocity} {position} {count}")
+        }
     }
 }
 

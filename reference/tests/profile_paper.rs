@@ -27,18 +27,12 @@ fn the_lists_of_the_first_row() {
     for direction in [1, -1] {
         for k in 0..9 {
             let answer = sample(&first_row(direction), k as u64);
-            let SampleAnswer::Sampled {
-                velocity,
-                position,
-                count,
-                ..
-            } = answer
-            else {
+            let SampleAnswer::Sampled(at) = answer else {
                 panic!("sample {k} is refused");
             };
-            assert_eq!(velocity, direction * G * VELOCITY[k]);
-            assert_eq!(position, direction * G * POSITION[k]);
-            assert_eq!(count, direction * POSITION[k]);
+            assert_eq!(at.velocity, direction * G * VELOCITY[k]);
+            assert_eq!(at.position, direction * G * POSITION[k]);
+            assert_eq!(at.count, direction * POSITION[k]);
         }
     }
 }

@@ -3,7 +3,7 @@
 
 use reference::planner::{plan, Answer, Move};
 use reference::profile::{
-    nearest_count, position_table, reference_table, sample, SampleAnswer, TableAnswer,
+    nearest_count, position_table, reference_table, sample, Sample, SampleAnswer, TableAnswer,
 };
 use reference::vectors::planner::moves;
 
@@ -83,14 +83,14 @@ fn the_samples_hold_the_five_values() {
         let last = list.len() - 1;
         for k in (0..last).step_by(step).chain([last]) {
             let [snap, jerk, acceleration, velocity, position] = list[k].map(|x| x as i64);
-            let expected = SampleAnswer::Sampled {
+            let expected = SampleAnswer::Sampled(Sample {
                 snap,
                 jerk,
                 acceleration,
                 velocity,
                 position,
                 count: nearest_count(position),
-            };
+            });
             assert_eq!(sample(&motion, k as u64), expected);
         }
     }

@@ -31,6 +31,11 @@ impl Move {
         }
     }
 
+    /// V, A, J and S.
+    pub fn bounds(&self) -> [u64; 4] {
+        [self.velocity, self.acceleration, self.jerk, self.snap]
+    }
+
     /// The way in grains (W in the paper): G times the size of X.
     pub fn w(&self) -> u128 {
         COUNT_GRAINS * u128::from(self.displacement.unsigned_abs())

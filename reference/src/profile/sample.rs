@@ -8,15 +8,31 @@ use crate::planner::Move;
 pub enum SampleAnswer {
     /// The number of the refusal, 1 to 7 or 9.
     Refused(u8),
-    /// The five values in grains, and the position in counts.
-    Sampled {
-        snap: i64,
-        jerk: i64,
-        acceleration: i64,
-        velocity: i64,
-        position: i64,
-        count: i64,
-    },
+    Sampled(Sample),
+}
+
+/// The five values in grains, and the position in counts.
+#[derive(Clone, Copy, Debug, PartialEq, Eq)]
+pub struct Sample {
+    pub snap: i64,
+    pub jerk: i64,
+    pub acceleration: i64,
+    pub velocity: i64,
+    pub position: i64,
+    pub count: i64,
+}
+
+impl Sample {
+    /// Snap, jerk, acceleration, velocity and position.
+    pub fn values(&self) -> [i64; 5] {
+        [
+            self.snap,
+            self.jerk,
+            self.acceleration,
+            self.velocity,
+            self.position,
+        ]
+    }
 }
 
 /// The values at sample k, summed from rest, or the lowest refusal that applies.
@@ -28,12 +44,12 @@ pub fn sample(motion: &Move, k: u64) -> SampleAnswer {
     };
     let asked = profile.samples().nth(k as usize);
     let (snap, state) = asked.expect("samples 0 to N are there");
-    SampleAnswer::Sampled {
+    SampleAnswer::Sampled(Sample {
         snap,
         jerk: state.jerk,
         acceleration: state.acceleration,
         velocity: state.velocity,
         position: state.position,
         count: nearest_count(state.position),
-    }
+    })
 }

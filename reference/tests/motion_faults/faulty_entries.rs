@@ -5,7 +5,7 @@ use crate::faulty_count::faulty_count;
 use crate::faulty_profile::{faulty_profile, Faulty};
 use crate::faulty_table::write;
 use reference::planner::Move;
-use reference::profile::{SampleAnswer, TableAnswer};
+use reference::profile::{Sample, SampleAnswer, TableAnswer};
 use reference::vectors::motion::Entries;
 use std::cell::RefCell;
 
@@ -98,12 +98,12 @@ fn given(fault: Fault, profile: Result<&Faulty, u8>, place: usize) -> SampleAnsw
         Err(number) => return SampleAnswer::Refused(number),
     };
     let [snap, jerk, acceleration, velocity, position] = profile.values[place];
-    SampleAnswer::Sampled {
+    SampleAnswer::Sampled(Sample {
         snap: snap as i64,
         jerk: jerk as i64,
         acceleration: acceleration as i64,
         velocity: velocity as i64,
         position: position as i64,
         count: faulty_count(fault, position, profile.exact) as i64,
-    }
+    })
 }

@@ -23,16 +23,9 @@ pub struct Values {
 fn values(motion: &Move, k: u64) -> Values {
     match sample(motion, k) {
         SampleAnswer::Refused(number) => panic!("sample {k} of {motion:?} is refused {number}"),
-        SampleAnswer::Sampled {
-            snap,
-            jerk,
-            acceleration,
-            velocity,
-            position,
-            count,
-        } => Values {
-            grains: [snap, jerk, acceleration, velocity, position].map(i128::from),
-            count,
+        SampleAnswer::Sampled(at) => Values {
+            grains: at.values().map(i128::from),
+            count: at.count,
         },
     }
 }

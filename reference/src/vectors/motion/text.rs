@@ -2,7 +2,6 @@
 
 use super::entries::{Entries, Reference};
 use super::request::{Kind, Request};
-use crate::planner::Move;
 use crate::profile::{SampleAnswer, TableAnswer};
 use crate::vectors::Files;
 
@@ -26,16 +25,10 @@ fn input_line(request: &Request) -> String {
         Kind::Positions => 'p',
         Kind::References => 'r',
     };
-    let Move {
-        displacement,
-        velocity,
-        acceleration,
-        jerk,
-        snap,
-    } = request.motion;
-    let numbers = [velocity, acceleration, jerk, snap, request.n, request.m];
-    let columns: String = numbers.iter().map(|x| format!(" {x:>20}")).collect();
-    format!("{letter} {displacement:>20}{columns}\n")
+    let asked = [request.n, request.m];
+    let numbers = request.motion.bounds().into_iter().chain(asked);
+    let columns: String = numbers.map(|x| format!(" {x:>20}")).collect();
+    format!("{letter} {:>20}{columns}\n", request.motion.displacement)
 }
 
 /// What the entries say to a request: a line for each sample, or one for a table.
@@ -61,14 +54,10 @@ fn unwritten(place: u64) -> i64 {
 fn sample_line(answer: SampleAnswer) -> String {
     match answer {
         SampleAnswer::Refused(number) => format!("refused {number}\n"),
-        SampleAnswer::Sampled {
-            snap,
-            jerk,
-            acceleration,
-            velocity,
-            position,
-            count,
-        } => format!("sample {snap} {jerk} {acceleration} {velocity} {position} {count}\n"),
+        SampleAnswer::Sampled(sample) => {
+            let values: String = sample.values().iter().map(|x| format!(" {x}")).collect();
+            format!("sample{values} {}\n", sample.count)
+        }
     }
 }
 

@@ -13,14 +13,11 @@ pub fn files(moves: &[Move]) -> Files {
 /// X V A J S, each 20 characters wide: every line has 105 bytes, so a reader
 /// finds any move without reading the ones before it.
 fn input_line(motion: &Move) -> String {
-    let Move {
-        displacement,
-        velocity,
-        acceleration,
-        jerk,
-        snap,
-    } = motion;
-    format!("{displacement:>20} {velocity:>20} {acceleration:>20} {jerk:>20} {snap:>20}\n")
+    let [v, a, j, s] = motion.bounds();
+    format!(
+        "{:>20} {v:>20} {a:>20} {j:>20} {s:>20}\n",
+        motion.displacement
+    )
 }
 
 fn output_line(motion: &Move) -> String {

@@ -1,7 +1,7 @@
 //! Every refusal, alone and where a higher number applies as well.
 
 use super::{Asked, Condition};
-use crate::planner::{Answer, Move, LARGEST_BOUND};
+use crate::planner::{Answer, LARGEST_BOUND};
 use crate::vectors::motion::request::{Kind, Request, TABLES};
 
 pub fn conditions(asked: &Asked) -> Vec<Condition> {
@@ -40,19 +40,10 @@ fn several(asked: &Asked, number: u8) -> Condition {
     let wrong = |bound: &u64| !(1..=LARGEST_BOUND).contains(bound);
     let own = usize::from(number > 2);
     let met = asked.any_request(|request, answer| {
-        let count = bounds(&request.motion).iter().filter(|b| wrong(b)).count();
+        let count = request.motion.bounds().iter().filter(|b| wrong(b)).count();
         *answer == Answer::Refused(number) && count > own
     });
     (format!("refusal {number} before a higher number"), met)
-}
-
-fn bounds(motion: &Move) -> [u64; 4] {
-    [
-        motion.velocity,
-        motion.acceleration,
-        motion.jerk,
-        motion.snap,
-    ]
 }
 
 /// The extreme displacements, and each bound at its extreme.
@@ -64,7 +55,7 @@ fn extremes(asked: &Asked) -> Vec<Condition> {
     let bound = |k: usize| {
         let met = asked.any_request(|request, answer| {
             let number = Answer::Refused(3 + k as u8);
-            bounds(&request.motion)[k] == u64::MAX && *answer == number
+            request.motion.bounds()[k] == u64::MAX && *answer == number
         });
         (format!("refusal {} by the largest number", 3 + k), met)
     };
