@@ -7,7 +7,8 @@ use lib.Signed.{_≤ℤ_, _<ℤ_}
 use Rattle.profile.specs.Profile as profile
 use Rattle.motion.specs.Direction as direction
 use Rattle.motion.specs.Direction.{along}
-use Rattle.motion.proofs.KeptRules.{Keeps, at}
+use Rattle.motion.proofs.KeptRules.{Keeps}
+use Rattle.motion.proofs.OrderedLaws.{at}
 use Rattle.motion.proofs.StateLaws.{size-along}
 
 -- a number that is not negative, in either direction

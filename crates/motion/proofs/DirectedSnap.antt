@@ -9,7 +9,8 @@ use Rattle.profile.specs.Segments.{snapIn}
 use Rattle.profile.specs.Profile as profile
 use Rattle.profile.specs.Widths.{snapBy}
 use Rattle.profile.proofs.SwitchedLaws.{snap-by-negated, snap-by-widths}
-use Rattle.profile.proofs.FourthOrder.{spread, fifteen}
+use Rattle.profile.proofs.FourthOrder.{fifteen}
+use Rattle.motion.proofs.OrderedLaws.{spread}
 use Rattle.motion.specs.Direction as direction
 use Rattle.motion.specs.Direction.{along}
 use Rattle.motion.specs.declared.snap.Levels.{Levels}
@@ -19,7 +20,7 @@ module _ {a b c e : ℕ} (o : Ordered a b c e) (D k : ℕ) where
   forward : snapBy a (e ∷ c ∷ b ∷ []) (pos D) (negℤ (pos D)) k ≡ profile.snap (p a) (q a b) (r a b c) (s a b c e) D k
   unfolding profile.snap
   forward =
-      sym (snap-by-widths a (e ∷ c ∷ b ∷ []) (spread a b c e (o .a-b) (o .ab-c) (o .abc-e)) D k)
+      sym (snap-by-widths a (e ∷ c ∷ b ∷ []) (spread o) D k)
       ∙ sym (ap (λ xs. snapIn xs D k) (fifteen a b c e))
 
 at-sample : (X : ℤ) {a b c e : ℕ} → Ordered a b c e → (D k : ℕ) → snapBy a (e ∷ c ∷ b ∷ []) (along X (pos D)) (negℤ (along X (pos D))) k ≡ direction.snap X a b c e D k

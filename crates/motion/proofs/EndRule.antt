@@ -7,7 +7,8 @@ use lib.IntN.{ℤ, pos, negsuc}
 use Rattle.planner.specs.Quantities.{distance}
 use Rattle.planner.specs.Durations.{N, P}
 use Rattle.profile.specs.Facts.{AtEnd}
-use Rattle.motion.proofs.KeptRules.{Keeps, at-end}
+use Rattle.motion.proofs.KeptRules.{Keeps}
+use Rattle.motion.proofs.OrderedLaws.{at-end}
 use Rattle.motion.specs.Direction as direction
 use Rattle.motion.specs.Direction.{along}
 use Rattle.motion.specs.Count.{IsCount}

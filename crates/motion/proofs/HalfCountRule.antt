@@ -15,7 +15,8 @@ use Rattle.motion.specs.Direction.{along}
 use Rattle.motion.proofs.IntegerLaws.{multiple-negated, difference, swapped-difference}
 use Rattle.profile.specs.Widths.{product}
 use Rattle.profile.proofs.HalfCountLaw.{exact-ramp, behind-half}
-use Rattle.motion.proofs.KeptRules.{Keeps, at}
+use Rattle.motion.proofs.KeptRules.{Keeps}
+use Rattle.motion.proofs.OrderedLaws.{at}
 
 -- differences in the direction of X
 along-ahead : (X : ℤ) (m n z : ℕ) → pos 0 <ℤ X → along X (pos z) -ℤ pos m *ℤ along X (pos n) ≡ pos z -ℤ pos (m * n)

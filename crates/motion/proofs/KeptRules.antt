@@ -5,10 +5,8 @@ use Prim.Native.Nat.{ℕ, _+_, _*_, _≤_, _<_, _^_}
 use native.Mathlib.Nat.{le-trans, mul-assoc}
 use lib.IntN.{ℤ}
 use Rattle.planner.specs.Quantities.{distance}
-use Rattle.planner.specs.Durations.{N, P}
+use Rattle.planner.specs.Durations.{P}
 use Rattle.planner.specs.Facts.{Ordered, PlanFacts}
-use Rattle.profile.specs.Facts.{At, AtEnd}
-use Rattle.profile.proofs.FourthOrder.{fourth-order, fourth-order-end}
 
 pub record Keeps (X : ℤ) (V₀ A₀ J₀ S₀ a b c e D short : ℕ) : Type 0 where
   pub ordered : Ordered a b c e
@@ -33,11 +31,3 @@ keeps {a = a} {b = b} {c = c} {D = D} f =
       short-below = f .shortfall-below;
       product-most = f .product;
     }
-
--- the laws of the profile, for ordered intervals
-module _ {a b c e : ℕ} (o : Ordered a b c e) where
-  pub at : (size k : ℕ) → At a b c e size k
-  at = fourth-order a b c e (o .a-b) (o .ab-c) (o .abc-e)
-
-  pub at-end : (size k : ℕ) → N a b c e ≤ k → AtEnd a b c e size k
-  at-end = fourth-order-end a b c e (o .a-b) (o .ab-c) (o .abc-e)

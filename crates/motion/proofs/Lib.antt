@@ -4,6 +4,7 @@ pub mod DirectionLaws
 pub mod CountLaws
 pub mod RoundingLaws
 -- The snap at a sample, the sums from rest, and that none leaves its range.
+pub mod OrderedLaws
 pub mod InnerSampleLaws
 pub mod DirectedSnap
 pub mod StepLaws

@@ -19,9 +19,9 @@ use Rattle.motion.specs.Direction.{along}
 use Rattle.motion.specs.declared.state.State.{State}
 use Rattle.motion.specs.Inner.Steps.{StepFits, stateAt}
 use Rattle.motion.specs.Inner.Planned.{WithinRange}
+use Rattle.motion.proofs.OrderedLaws.{spread, at}
 use Rattle.motion.proofs.IntegerLaws.{size-negated}
 use Rattle.profile.proofs.SumLaws.{sums-negated}
-use Rattle.profile.proofs.FourthOrder.{spread, fourth-order}
 
 -- the direction, on sums and sizes
 along-sums : (X : ℤ) (n : ℕ) (f : ℕ → ℤ) (k : ℕ) → sums n (λ i. along X (f i)) k ≡ along X (sums n f k)
@@ -66,9 +66,7 @@ module _ (X : ℤ) (a b c e D : ℕ) (h : WithinRange a b c e D) where
   below : (m : ℕ) (outer inner : List ℕ) → outer ++ inner ≡ e ∷ c ∷ b ∷ [] → m ≤ D * product a inner → m ≤ 2 ^ 60
   unfolding product
   below m outer inner q l =
-      let o = h .ordered in
-      let all = spread a b c e (o .a-b) (o .ab-c) (o .abc-e) in
-      let grown = product-grows a outer inner (o .one-a) (subst (Spread a) (sym q) all) in
+      let grown = product-grows a outer inner (h .ordered .one-a) (subst (Spread a) (sym q) (spread (h .ordered))) in
       le-trans l (le-trans (mul-le-mul-left D (rw q at grown)) (h .reach))
 
   fits : (n k : ℕ) → natAbs (sums n (plain X a b c e D) k) ≤ 2 ^ 60 → SFits w64 (sums n (direction.snap X a b c e D) k)
@@ -77,8 +75,7 @@ module _ (X : ℤ) (a b c e D : ℕ) (h : WithinRange a b c e D) where
   pub step-fits : (k : ℕ) → k ≤ mostSamples → StepFits (stateAt (direction.snap X a b c e D) k) (direction.snap X a b c e D k)
   unfolding product sum sums profile.jerk profile.acceleration profile.velocity profile.position
   step-fits k l =
-      let o = h .ordered in
-      let t = fourth-order a b c e (o .a-b) (o .ab-c) (o .abc-e) D (suc k) in
+      let t = at (h .ordered) D (suc k) in
       record {
         sample = record { fits = omega arith };
         jerk = fits 1 (suc k) (below _ (e ∷ c ∷ b ∷ []) [] refl (t .jerk-size));

@@ -12,7 +12,7 @@ use Rattle.profile.specs.Profile as profile
 use Rattle.profile.specs.Widths.{span}
 use Rattle.profile.proofs.Lookup.{samples, snap-ends}
 use Rattle.profile.proofs.SwitchedLaws.{samples-switched}
-use Rattle.profile.proofs.FourthOrder.{spread, fifteen}
+use Rattle.profile.proofs.FourthOrder.{fifteen}
 use Rattle.motion.specs.Direction as direction
 use Rattle.motion.specs.Direction.{along}
 use Rattle.motion.specs.Tables.{rowsFrom}
@@ -25,6 +25,7 @@ use Rattle.motion.specs.Inner.Runs.{CanRun, Ran}
 use Rattle.motion.specs.Inner.SnapLevels.{AreLevels}
 use Rattle.motion.specs.Inner.SegmentSnaps.{snapsOf, IsDurations, fifteenOf, NextSegment}
 use Rattle.motion.specs.Inner.Planned.{WithinRange, PositionsIn}
+use Rattle.motion.proofs.OrderedLaws.{spread}
 use Rattle.motion.proofs.DirectionLaws.{along-zero}
 use Rattle.motion.proofs.ListedLaws.{Listed, directedSnaps, length-snaps, listed, listed-joined}
 use Rattle.motion.proofs.RowLaws.{steps-fit, stored-rows}
@@ -45,7 +46,7 @@ module _ (X : ℤ) (a b c e D : ℕ) (h : WithinRange a b c e D) where
   unfolding span
   all-samples =
       ap samples (fifteen a b c e)
-      ∙ samples-switched a (e ∷ c ∷ b ∷ []) (spread a b c e (h .ordered .a-b) (h .ordered .ab-c) (h .ordered .abc-e))
+      ∙ samples-switched a (e ∷ c ∷ b ∷ []) (spread (h .ordered))
 
   run-length : length run ≡ N a b c e + 1
   run-length = length-append (directedSnaps X D all) (pos 0 ∷ []) ∙ ap (λ (n : ℕ). n + 1) (length-snaps X D all ∙ all-samples)

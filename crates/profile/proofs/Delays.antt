@@ -8,7 +8,7 @@ use native.Mathlib.Omega.{arith}
 use Rattle.profile.specs.Widths.{total}
 use Rattle.profile.proofs.Totals.{total-late}
 
--- what f comes to; g comes to `delays ws g f`. Both start at 0, so that k - w is right before w too
+-- f, with g delayed by each width, and f delayed again by two; g comes to `delays ws g f`. Both start at 0, so that k - w is right before w too
 unfoldable pub delays : List ℕ → (f g : ℕ → ℕ) → ℕ → ℕ
 delays [] f g k = f k
 delays (w ∷ ws) f g k = delays ws f g k + delays ws g f (k - w)
@@ -25,7 +25,7 @@ delays-total (w ∷ ws) f g p q k =
     total-late (delays ws f g) (delays ws g f) w k (delays-start ws g f q p)
     ∙ ap₂ _+_ (delays-total ws f g p q k) (delays-total ws g f q p (k - w))
 
--- one delay by w
+-- f, and g delayed by w
 abbrev pub delay : ℕ → (f g : ℕ → ℕ) → ℕ → ℕ
 delay w f g k = f k + g (k - w)
 
@@ -34,7 +34,7 @@ unfolding delays
 delays-inner [] w f g k = refl
 delays-inner (v ∷ ws) w f g k = ap₂ _+_ (delays-inner ws w f g k) (delays-inner ws w g f (k - v))
 
--- the sum, with the innermost width delayed first
+-- the sum, with the innermost width taken first
 pub delays-summed :
     (ws : List ℕ) (w : ℕ) (f g : ℕ → ℕ)
     → f 0 ≡ 0

@@ -46,8 +46,8 @@ unfoldable pub total : (ℕ → ℕ) → ℕ → ℕ
 total f zero = 0
 total f (suc k) = total f k + f k
 
--- The position of the profile at sample k for a snap of size 1: it rises from 0 to the product of all intervals. Each width delays it
--- into its sum over the last w samples.
+-- The position of the profile at sample k for a snap of size 1: it rises from 0 to the product of all intervals. Each width w turns
+-- it into its sum over the last w samples.
 unfoldable pub ramp : ℕ → List ℕ → ℕ → ℕ
 ramp a [] k = min k a
 ramp a (w ∷ ws) k = total (ramp a ws) k - total (ramp a ws) (k - w)
