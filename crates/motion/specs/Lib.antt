@@ -3,6 +3,11 @@
 pub mod Direction
 pub mod Values
 pub mod Count
+pub mod Machine
+pub mod Doubled
+pub mod Formula
+pub mod Force
+pub mod Exact
 pub mod Result
 pub mod Sampling
 pub mod Tables

@@ -1,0 +1,44 @@
+-- Document 01, "Force rows": the "doubled whole numbers" of row k.
+use mathlib.Core.Bool.{cond}
+use Prim.Native.Nat.{ℕ, zero, suc}
+use lib.Dec.{leb}
+use lib.IntN.{ℤ, pos, _+ℤ_, _*ℤ_}
+use lib.Ieee.{Float, binary64, ofInt}
+
+-- d2, j2, a2 and v2, as numbers of any kind.
+pub record Doubled (A : Type 0) : Type 0 where
+  pub d2 : A
+  pub j2 : A
+  pub a2 : A
+  pub v2 : A
+
+-- The paper's f[k−n]: "values before sample 0 .. are 0".
+unfoldable pub earlier : (ℕ → ℤ) → (n k : ℕ) → ℤ
+earlier f zero k = f k
+earlier f (suc n) zero = pos 0
+earlier f (suc n) (suc k) = earlier f n k
+
+-- ".. or after N are 0".
+unfoldable pub upTo : (N : ℕ) → (ℕ → ℤ) → ℕ → ℤ
+upTo N f k = cond (leb k N) (f k) (pos 0)
+
+-- Of a move of N samples with these values.
+module _ (N : ℕ) (snap jerk acceleration velocity : ℕ → ℤ) where
+  unfoldable pub doubled : ℕ → Doubled ℤ
+  doubled k =
+      record {
+        d2 = pos 2 *ℤ earlier (upTo N snap) 2 k;
+        j2 = earlier (upTo N jerk) 1 k +ℤ earlier (upTo N jerk) 2 k;
+        a2 = pos 2 *ℤ earlier (upTo N acceleration) 1 k;
+        v2 = earlier (upTo N velocity) 0 k +ℤ earlier (upTo N velocity) 1 k;
+      }
+
+-- Cast to floats: a zero becomes +0.0.
+unfoldable pub cast : Doubled ℤ → Doubled Float
+cast w =
+    record {
+      d2 = ofInt binary64 (w .d2);
+      j2 = ofInt binary64 (w .j2);
+      a2 = ofInt binary64 (w .a2);
+      v2 = ofInt binary64 (w .v2);
+    }

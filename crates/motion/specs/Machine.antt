@@ -1,0 +1,53 @@
+-- Document 01, "Force rows": the machine, and which machines are in range.
+use mathlib.Core.Bool.{Bool, false, cond, _&&_}
+use lib.IntN.{pos, negsuc}
+use lib.Ieee.{Float, fin, eq, le}
+use lib.Ieee.Scale.{finite}
+
+-- "masses m1 and m2, dampings k1, k2 and k12, stiffness c", as numbers of any kind.
+pub record Machine (A : Type 0) : Type 0 where
+  pub m1 : A
+  pub m2 : A
+  pub k1 : A
+  pub k2 : A
+  pub k12 : A
+  pub c : A
+
+-- A finite float is m·2^e: 0, 2^20 and 2^−20.
+abbrev pub plusZero : Float
+plusZero = fin false 0 (pos 0)
+
+abbrev pub most : Float
+most = fin false 1 (pos 20)
+
+abbrev pub leastStiffness : Float
+leastStiffness = fin false 1 (negsuc 19)
+
+-- "Minus zero is read as plus zero." Both zeros, and nothing else, equal zero.
+unfoldable pub asRead : Float → Float
+asRead x = cond (eq x plusZero) plusZero x
+
+unfoldable pub machineAsRead : Machine Float → Machine Float
+machineAsRead m =
+    record {
+      m1 = asRead (m .m1);
+      m2 = asRead (m .m2);
+      k1 = asRead (m .k1);
+      k2 = asRead (m .k2);
+      k12 = asRead (m .k12);
+      c = asRead (m .c);
+    }
+
+-- "finite, at least 0 and at most 2^20", or at least another number.
+unfoldable pub inRange : (least x : Float) → Bool
+inRange least x = finite x && le least x && le x most
+
+-- "Each is finite, at least 0 and at most 2^20, and c is at least 2^−20."
+unfoldable pub machineInRange : Machine Float → Bool
+machineInRange m =
+    inRange plusZero (m .m1)
+    && inRange plusZero (m .m2)
+    && inRange plusZero (m .k1)
+    && inRange plusZero (m .k2)
+    && inRange plusZero (m .k12)
+    && inRange leastStiffness (m .c)
