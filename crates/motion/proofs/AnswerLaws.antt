@@ -12,7 +12,7 @@ use Rattle.motion.specs.Answer.{number, values, sampleOutcome, tableOutc
 use Rattle.motion.proofs.CountLaws.{one-count}
 use Rattle.motion.specs.declared.Sample.{Sample}
 use Rattle.motion.specs.declared.MotionRefusal.{MotionRefusal}
-use Rattle.motion.specs.declared.MotionRefusal.the-variants.{Unplanned, ShortTable, PastEnd}
+use Rattle.motion.specs.declared.MotionRefusal.the-variants.{Unplanned, ShortTable, PastEnd, MachineRange}
 use Rattle.motion.specs.declared.SampleAnswer.{SampleAnswer}
 use Rattle.motion.specs.declared.SampleAnswer.the-variants.{Sampled, Refused as NoSample}
 use Rattle.motion.specs.declared.TableAnswer.{TableAnswer}
@@ -28,6 +28,13 @@ number-injective ShortTable PastEnd h = absurd (omega (arith, h))
 number-injective PastEnd (Unplanned y) h = absurd (omega (arith, planner.number-most y, h))
 number-injective PastEnd ShortTable h = absurd (omega (arith, h))
 number-injective PastEnd PastEnd h = refl
+number-injective (Unplanned x) MachineRange h = absurd (omega (arith, planner.number-most x, h))
+number-injective ShortTable MachineRange h = absurd (omega (arith, h))
+number-injective PastEnd MachineRange h = absurd (omega (arith, h))
+number-injective MachineRange (Unplanned y) h = absurd (omega (arith, planner.number-most y, h))
+number-injective MachineRange ShortTable h = absurd (omega (arith, h))
+number-injective MachineRange PastEnd h = absurd (omega (arith, h))
+number-injective MachineRange MachineRange h = refl
 
 -- a refusal is not what was asked for
 apart : {A : Type 0} (n : ℕ) (x : A) → refused n ≡ given x → ⊥

@@ -15,6 +15,9 @@ pub mod SegmentLaws
 pub mod ListedLaws
 pub mod RowLaws
 pub mod TableLaws
+-- The machine, its drive, and the rows of a force table.
+pub mod CastLaws
+pub mod MachineLaws
 -- From a plan to what the entries promise.
 pub mod EntryLaws
 pub mod SamplingLaws

@@ -1,11 +1,17 @@
 -- The answers as the paper has them: the number of each refusal, and the values that are given. Every field of every case is read.
 use Prim.Native.Nat.{ℕ}
+use lib.Ieee.{Float}
 use Rattle.planner.specs.Answer as planner
+use Rattle.motion.specs.Machine as machine
+use Rattle.motion.specs.Force.{DriveKind, rigid, filtered}
 use Rattle.motion.specs.Result.{Result, refused, given}
 use Rattle.motion.specs.Sampling.{Values}
 use Rattle.motion.specs.declared.Sample.{Sample}
+use Rattle.motion.specs.declared.Machine.{Machine}
+use Rattle.motion.specs.declared.drive.Drive.{Drive}
+use Rattle.motion.specs.declared.drive.Drive.the-variants.{Rigid, Filtered}
 use Rattle.motion.specs.declared.MotionRefusal.{MotionRefusal}
-use Rattle.motion.specs.declared.MotionRefusal.the-variants.{Unplanned, ShortTable, PastEnd}
+use Rattle.motion.specs.declared.MotionRefusal.the-variants.{Unplanned, ShortTable, PastEnd, MachineRange}
 use Rattle.motion.specs.declared.SampleAnswer.{SampleAnswer}
 use Rattle.motion.specs.declared.SampleAnswer.the-variants.{Sampled, Refused as NoSample}
 use Rattle.motion.specs.declared.TableAnswer.{TableAnswer}
@@ -16,6 +22,16 @@ abbrev pub number : MotionRefusal → ℕ
 number (Unplanned x) = planner.number x
 number ShortTable = 8
 number PastEnd = 9
+number MachineRange = 10
+
+-- The machine's numbers as they were sent.
+abbrev pub machineOf : Machine → machine.Machine Float
+machineOf m = record { m1 = m .m1; m2 = m .m2; k1 = m .k1; k2 = m .k2; k12 = m .k12; c = m .c }
+
+-- The checked drive.
+abbrev pub driveKind : Drive → DriveKind
+driveKind (Rigid stiffness) = rigid stiffness
+driveKind (Filtered alpha beta) = filtered alpha beta
 
 abbrev pub values : Sample → Values
 values x =

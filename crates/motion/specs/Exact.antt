@@ -35,6 +35,13 @@ pub record IsWholeMachine (m : Machine Float) (whole : Machine ℤ) : Type 0 whe
   pub k12 : IsWhole (m .k12) (whole .k12)
   pub c : IsWhole (m .c) (whole .c)
 
+-- The doubled numbers of a row are within 2^53, so their casts lose nothing.
+pub record Castable (w : Doubled ℤ) : Type 0 where
+  pub d2 : natAbs (w .d2) ≤ 2 ^ 53
+  pub j2 : natAbs (w .j2) ≤ 2 ^ 53
+  pub a2 : natAbs (w .a2) ≤ 2 ^ 53
+  pub v2 : natAbs (w .v2) ≤ 2 ^ 53
+
 -- A formula by how it is made; each number in it as a float and as the whole number that it stands for.
 pub data Made : Type 0 where
   number : (float : Float) (whole : ℤ) → Made

@@ -5,3 +5,4 @@ pub mod Steps
 pub mod Planned
 pub mod Runs
 pub mod SegmentSnaps
+pub mod Rows

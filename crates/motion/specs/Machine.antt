@@ -38,16 +38,17 @@ machineAsRead m =
       c = asRead (m .c);
     }
 
--- "finite, at least 0 and at most 2^20", or at least another number.
-unfoldable pub inRange : (least x : Float) → Bool
-inRange least x = finite x && le least x && le x most
+-- "finite, at least 0 and at most 2^20"
+unfoldable pub inRange : Float → Bool
+inRange x = finite x && le plusZero x && le x most
 
 -- "Each is finite, at least 0 and at most 2^20, and c is at least 2^−20."
 unfoldable pub machineInRange : Machine Float → Bool
 machineInRange m =
-    inRange plusZero (m .m1)
-    && inRange plusZero (m .m2)
-    && inRange plusZero (m .k1)
-    && inRange plusZero (m .k2)
-    && inRange plusZero (m .k12)
-    && inRange leastStiffness (m .c)
+    inRange (m .m1)
+    && inRange (m .m2)
+    && inRange (m .k1)
+    && inRange (m .k2)
+    && inRange (m .k12)
+    && inRange (m .c)
+    && le leastStiffness (m .c)

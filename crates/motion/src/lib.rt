@@ -1,8 +1,13 @@
 // One sample of a move, and the tables that the drive and the feedback loop play. Every entry takes the move's own numbers and plans
 // inside.
+mod coefficients;
 mod count;
+mod doubled;
+mod drive;
+mod machine_range;
 mod planned;
 mod refusal;
+mod rows;
 mod segments;
 mod snap;
 mod state;
@@ -32,11 +37,22 @@ pub struct Sample {
     pub count: i64,
 }
 
-// Refusals 1 to 7 of the planner, 8 and 9.
+// A two-mass machine: masses, dampings and stiffness, with time in samples. The names are the paper's.
+pub struct Machine {
+    pub m1: f64,
+    pub m2: f64,
+    pub k1: f64,
+    pub k2: f64,
+    pub k12: f64,
+    pub c: f64,
+}
+
+// Refusals 1 to 7 of the planner, 8, 9 and 10.
 pub enum MotionRefusal {
     Unplanned(Refusal),
     ShortTable,
     PastEnd,
+    MachineRange,
 }
 
 pub enum SampleAnswer {
@@ -94,5 +110,6 @@ pub fn refusal_number(refusal: MotionRefusal) -> u64
         MotionRefusal::Unplanned(unplanned) => planner::refusal_number(unplanned),
         MotionRefusal::ShortTable => 8,
         MotionRefusal::PastEnd => 9,
+        MotionRefusal::MachineRange => 10,
     }
 }

@@ -1,0 +1,67 @@
+// A row of a force table.
+use crate::coefficients::Coefficients;
+use crate::doubled::Doubled;
+use crate::doubled::Earlier;
+use crate::doubled::doubled_by;
+use crate::doubled::earlier_next;
+use crate::drive::Drive;
+use crate::state::State;
+use crate::state::step;
+ghost use mathlib.Core.Path.{_≡_};
+ghost use Rattle.motion.specs.Exact.{Castable};
+ghost use Rattle.motion.specs.Answer.{driveKind};
+ghost use Rattle.motion.specs.Inner.Steps.{StepFits};
+ghost use Rattle.motion.specs.Inner.Rows.{doubledBy, doubledNumbers, uBy, forceBy, rowIn, advanced};
+
+// The paper's u and the force of a row.
+pub(crate) struct Row {
+    pub u: f64,
+    pub force: f64,
+}
+
+// Before row k: the state at sample k, the values before it, and the row before.
+pub(crate) struct RowState {
+    pub state: State,
+    pub earlier: Earlier,
+    pub previous: Row,
+}
+
+// The casts lose nothing, and the operations stand in the paper's order.
+fn u_of(q: Coefficients, w: Doubled) -> f64
+    requires { ⌜ Castable (doubledNumbers w) ⌝ }
+    ensures { λ r. ⌜ r ≡ uBy q (doubledNumbers w) ⌝ }
+{
+    (q.q1 * (w.d2 as f64) + q.q2 * (w.j2 as f64) + q.q3 * (w.a2 as f64) + q.q4 * (w.v2 as f64))
+        * 0.5
+}
+
+fn force_of(drive: Drive, u: f64, previous: Row) -> f64
+    ensures { λ r. ⌜ r ≡ forceBy (driveKind drive) u previous ⌝ }
+{
+    match drive {
+        Drive::Rigid(stiffness) => u / stiffness,
+        Drive::Filtered(alpha, beta) => alpha * previous.force + beta * (u + previous.u),
+    }
+}
+
+pub(crate) fn row_in(q: Coefficients, drive: Drive, current: RowState) -> Row
+    requires { ⌜ Castable (doubledBy (current .state .velocity) (current .earlier)) ⌝ }
+    ensures { λ r. ⌜ r ≡ rowIn q (driveKind drive) current ⌝ }
+{
+    let u = u_of(q, doubled_by(current.state.velocity, current.earlier));
+    Row {
+        u,
+        force: force_of(drive, u, current.previous),
+    }
+}
+
+pub(crate) fn advance(current: RowState, snap: i64, row: Row) -> RowState
+    requires { ⌜ StepFits (current .state) snap ⌝ }
+    ensures { λ r. ⌜ r ≡ advanced current snap row ⌝ }
+{
+    RowState {
+        state: step(current.state, snap),
+        earlier: earlier_next(current.earlier, current.state, snap),
+        previous: row,
+    }
+}
