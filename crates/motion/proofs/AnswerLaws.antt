@@ -4,6 +4,7 @@ use mathlib.Core.Path.{_≡_, refl, sym, ap, _∙_}
 use Prim.Native.Nat.{ℕ}
 use native.Mathlib.Omega.{arith}
 use lib.IntN.{ℤ}
+use Rattle.planner.specs.Outcome.{Check}
 use Rattle.planner.proofs.AnswerLaws as planner
 use Rattle.motion.specs.Result.{Result, refused, given}
 use Rattle.motion.specs.Sampling.{Values, sampleWith, Samples}
@@ -79,8 +80,8 @@ module _ {X : ℤ} {V₀ A₀ J₀ S₀ k : ℕ} where
   one-sample-answer x y h l = sample-injective x y (one-outcome h l)
 
 pub one-table-answer :
-    {X : ℤ} {V₀ A₀ J₀ S₀ rows : ℕ} {row : ℕ → ℤ} {old new new′ : List ℤ} (x y : TableAnswer)
-    → Fills X V₀ A₀ J₀ S₀ rows row old (tableOutcome x) new
-    → Fills X V₀ A₀ J₀ S₀ rows row old (tableOutcome y) new′
+    {E : Type 0} {X : ℤ} {V₀ A₀ J₀ S₀ rows : ℕ} {own : List Check} {row : ℕ → E} {old new new′ : List E} (x y : TableAnswer)
+    → Fills X V₀ A₀ J₀ S₀ own rows row old (tableOutcome x) new
+    → Fills X V₀ A₀ J₀ S₀ own rows row old (tableOutcome y) new′
     → (x ≡ y) × (new ≡ new′)
 one-table-answer x y h l = (table-injective x y (h .outcome-is ∙ sym (l .outcome-is)), h .table-is ∙ sym (l .table-is))

@@ -84,7 +84,7 @@ module _ (X : ℤ) (V₀ A₀ J₀ S₀ : ℕ) (h : Accepted X V₀ A₀ J₀ S�
     place k l =
         ap (λ (t : List ℤ). getD t k (pos 0)) table-is
         ∙ List·getD-append (rowsFrom row 0 (N + 1)) _ (pos 0) k (omega (arith, length-rows row 0 (N + 1)))
-        ∙ row-at row 0 (N + 1) k (omega arith)
+        ∙ row-at row (pos 0) 0 (N + 1) k (omega arith)
         ∙ ap row (omega arith)
 
   module _ (sample : ℕ → Result Values) (promised : (k : ℕ) → k ≤ N → Samples X V₀ A₀ J₀ S₀ k (sample k)) where

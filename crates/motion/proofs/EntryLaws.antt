@@ -6,6 +6,7 @@ use Prim.Native.Nat.{ℕ, _+_, _≤_, _^_}
 use native.Mathlib.Nat.{le-trans, mul-le-mul-left}
 use native.Mathlib.Omega.{arith}
 use lib.IntN.{ℤ}
+use lib.Ieee.{Float}
 use Rattle.planner.specs.Quantities.{distance, unitsPerCount}
 use Rattle.planner.specs.Outcome.{firstRefusal, samplesOf, Outcome, planned, Check, check, outcomeOf, Plans}
 use Rattle.planner.specs.Outcome as plan
@@ -23,7 +24,10 @@ use Rattle.planner.proofs.PlannedFacts.{answer-facts}
 use Rattle.motion.specs.Direction as direction
 use Rattle.motion.specs.Values as value
 use Rattle.motion.specs.Result.{refused, given, resultOf}
-use Rattle.motion.specs.Inner.Planned.{WithinRange}
+use Rattle.motion.specs.Machine.{Machine}
+use Rattle.motion.specs.ForceTable.{rowNumbers, force}
+use Rattle.motion.specs.Inner.Planned.{WithinRange, plannedForce}
+use Rattle.motion.proofs.KeptRules.{keeps}
 
 -- an answer that is a refusal holds no plan
 pub not-planned : {r : PlanAnswer} {x : Refusal} → r ≡ Refused x → IsPlanned (outcome r) → ⊥
@@ -70,6 +74,7 @@ module _ {X : ℤ} {V₀ A₀ J₀ S₀ a b c e D short : ℕ} (h : Entered X V�
         ordered = rules .ordered;
         samples = rules .samples;
         reach = le-trans (omega (arith, rules .whole)) far;
+        speed = le-trans (keeps rules .velocity) (rules .accepted .in-range .velocity .at-most);
       }
 
   -- the entry's own checks come next
@@ -97,9 +102,13 @@ module _ {X : ℤ} {V₀ A₀ J₀ S₀ a b c e D short : ℕ} (h : Entered X V�
   unfolding value.N samplesOf
   samples-are = by-rule (λ a b c e D. durations.N a b c e)
 
-  pub rows-are : durations.N a b c e + 1 ≡ value.N X V₀ A₀ J₀ S₀ + 1
-  rows-are = ap (λ (n : ℕ). n + 1) samples-are
+  pub rows-are : (more : ℕ) → durations.N a b c e + more ≡ value.N X V₀ A₀ J₀ S₀ + more
+  rows-are more = ap (λ (n : ℕ). n + more) samples-are
 
   pub position-is : (k : ℕ) → direction.position X a b c e D k ≡ value.position X V₀ A₀ J₀ S₀ k
   unfolding value.position
   position-is k = by-rule (λ a b c e D. direction.position X a b c e D k)
+
+  pub force-is : (m : Machine Float) (k : ℕ) → plannedForce X a b c e D m k ≡ force X V₀ A₀ J₀ S₀ m k
+  unfolding force rowNumbers value.N samplesOf value.snap value.jerk value.acceleration value.velocity
+  force-is m k = by-rule (λ a b c e D. plannedForce X a b c e D m k)

@@ -2,7 +2,7 @@
 use mathlib.Core.Bool.{Bool, true, false, cond}
 use mathlib.Core.Path.{_≡_, refl, sym, ap, _∙_}
 use Prim.Native.Nat.{ℕ, zero, suc, _+_, _-_, _*_, _≤_, _<_, zero-le}
-use native.Mathlib.Nat.{mul-zero}
+use native.Mathlib.Nat.{mul-zero, le-refl}
 use native.Mathlib.Omega.{arith}
 use borrow.Author.Tests.{ltb-true, ltb-false, le-ltb}
 use lib.Dec.{ltb, le→leb, lt→ltb}
@@ -30,6 +30,17 @@ size-below m n false h = omega (arith, ltb-false m n h)
 pub size-difference : (m n : ℕ) → natAbs (pos m -ℤ pos n) ≡ (m - n) + (n - m)
 size-difference m zero = omega arith
 size-difference m (suc n) = size-below m (suc n) (ltb m (suc n)) refl
+
+-- a sum is at most as large as its parts together
+pub size-sum : (x y : ℤ) → natAbs (x +ℤ y) ≤ natAbs x + natAbs y
+size-sum (pos m) (pos n) = le-refl (m + n)
+size-sum (pos m) (negsuc n) = omega (arith, size-difference m (suc n))
+size-sum (negsuc m) (pos n) = rw (+ℤ-comm (negsuc m) (pos n)) (omega (arith, size-difference n (suc m)))
+size-sum (negsuc m) (negsuc n) = omega arith
+
+pub size-doubled : (x : ℤ) → natAbs (pos 2 *ℤ x) ≡ 2 * natAbs x
+size-doubled (pos n) = refl
+size-doubled (negsuc n) = size-negated (pos (2 * suc n))
 
 pub difference : (m n : ℕ) → n ≤ m → pos m -ℤ pos n ≡ pos (m - n)
 difference m zero h = ap pos (omega arith)

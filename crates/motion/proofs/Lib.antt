@@ -9,15 +9,19 @@ pub mod InnerSampleLaws
 pub mod DirectedSnap
 pub mod StepLaws
 pub mod StateLaws
--- A table of positions: runs of stores, the fifteen segments, and the rows that they leave.
+-- A table: runs of stores, the fifteen segments, and the rows that they leave.
 pub mod RunLaws
 pub mod SegmentLaws
 pub mod ListedLaws
 pub mod RowLaws
 pub mod TableLaws
+pub mod SegmentRuns
+pub mod PositionLaws
 -- The machine, its drive, and the rows of a force table.
 pub mod CastLaws
 pub mod MachineLaws
+pub mod DoubledLaws
+pub mod ForceLaws
 -- From a plan to what the entries promise.
 pub mod EntryLaws
 pub mod SamplingLaws

@@ -1,7 +1,7 @@
 -- The sums of a plan's snap in the move's direction are the profile's values, and none leaves its range.
 -- Assumes nothing.
 use mathlib.Core.List.{List, [], _∷_, _++_}
-use mathlib.Core.Path.{_≡_, refl, sym, subst}
+use mathlib.Core.Path.{_≡_, refl, ap, subst, _∙_}
 use Prim.Native.Nat.{ℕ, suc, _-_, _*_, _≤_, _^_}
 use native.Mathlib.Nat.{le-trans, mul-le-mul-left, mul-one}
 use native.Mathlib.Omega.{arith}
@@ -11,7 +11,6 @@ use mir.Val.{SFits}
 use Rattle.planner.specs.Durations.{p, q, r, s}
 use Rattle.profile.specs.Sums.{sum, sums}
 use Rattle.profile.specs.Profile as profile
-use Rattle.planner.specs.Outcome.{mostSamples}
 use Rattle.profile.specs.Widths.{product, Spread}
 use Rattle.profile.proofs.ProductLaws.{product-grows}
 use Rattle.motion.specs.Direction as direction
@@ -62,17 +61,47 @@ module _ (X : ℤ) (a b c e D : ℕ) where
   state-is k = λ i. record { sample = k; jerk = sums-are 1 k i; acceleration = sums-are 2 k i; velocity = sums-are 3 k i; position = sums-are 4 k i }
 
 module _ (X : ℤ) (a b c e D : ℕ) (h : WithinRange a b c e D) where
+  one-step : D ≤ D * a
+  one-step = subst (λ (n : ℕ). n ≤ D * a) (mul-one D) (mul-le-mul-left D (h .ordered .one-a))
+
+  -- what is summed less often is smaller
+  grown : (top m : ℕ) (outer inner : List ℕ) → Spread a (outer ++ inner) → D * product a (outer ++ inner) ≤ top → m ≤ D * product a inner → m ≤ top
+  grown top m outer inner s t l = le-trans l (le-trans (mul-le-mul-left D (product-grows a outer inner (h .ordered .one-a) s)) t)
+
   -- every size on the way is at most the last position
   below : (m : ℕ) (outer inner : List ℕ) → outer ++ inner ≡ e ∷ c ∷ b ∷ [] → m ≤ D * product a inner → m ≤ 2 ^ 60
   unfolding product
-  below m outer inner q l =
-      let grown = product-grows a outer inner (h .ordered .one-a) (subst (Spread a) (sym q) (spread (h .ordered))) in
-      le-trans l (le-trans (mul-le-mul-left D (rw q at grown)) (h .reach))
+  below m outer inner q l = grown (2 ^ 60) m outer inner (rw q (spread (h .ordered))) (rw q (h .reach)) l
+
+  -- and but for the position at most the velocity's bound
+  slow : (m : ℕ) (outer inner : List ℕ) → outer ++ inner ≡ c ∷ b ∷ [] → m ≤ D * product a inner → m ≤ 2 ^ 50
+  unfolding product Spread
+  slow m outer inner q l = grown (2 ^ 50) m outer inner (rw q (spread (h .ordered) .1)) (rw q (h .speed)) l
+
+  size-is : (n k : ℕ) → natAbs (sums n (direction.snap X a b c e D) k) ≡ natAbs (sums n (plain X a b c e D) k)
+  size-is n k = ap natAbs (sums-are X a b c e D n k) ∙ size-along X (sums n (plain X a b c e D) k)
+
+  -- the values that a row of force doubles
+  pub snap-slow : (k : ℕ) → natAbs (sums 0 (direction.snap X a b c e D) k) ≤ 2 ^ 50
+  unfolding product sums
+  snap-slow k = rw (size-is 0 k) (slow _ (c ∷ b ∷ []) [] refl (le-trans (at (h .ordered) D k .snap-size) one-step))
+
+  pub jerk-slow : (k : ℕ) → natAbs (sums 1 (direction.snap X a b c e D) k) ≤ 2 ^ 50
+  unfolding product sums profile.jerk
+  jerk-slow k = rw (size-is 1 k) (slow _ (c ∷ b ∷ []) [] refl (at (h .ordered) D k .jerk-size))
+
+  pub acceleration-slow : (k : ℕ) → natAbs (sums 2 (direction.snap X a b c e D) k) ≤ 2 ^ 50
+  unfolding product sums profile.jerk profile.acceleration
+  acceleration-slow k = rw (size-is 2 k) (slow _ (c ∷ []) (b ∷ []) refl (at (h .ordered) D k .acceleration-size))
+
+  pub velocity-slow : (k : ℕ) → natAbs (sums 3 (direction.snap X a b c e D) k) ≤ 2 ^ 50
+  unfolding product sums profile.jerk profile.acceleration profile.velocity
+  velocity-slow k = rw (size-is 3 k) (slow _ [] (c ∷ b ∷ []) refl (at (h .ordered) D k .velocity-size))
 
   fits : (n k : ℕ) → natAbs (sums n (plain X a b c e D) k) ≤ 2 ^ 60 → SFits w64 (sums n (direction.snap X a b c e D) k)
-  fits n k l = small _ (rw (sums-are X a b c e D n k, size-along X (sums n (plain X a b c e D) k)) l)
+  fits n k l = small _ (rw (size-is n k) l)
 
-  pub step-fits : (k : ℕ) → k ≤ mostSamples → StepFits (stateAt (direction.snap X a b c e D) k) (direction.snap X a b c e D k)
+  pub step-fits : (k : ℕ) → k ≤ 2 ^ 60 → StepFits (stateAt (direction.snap X a b c e D) k) (direction.snap X a b c e D k)
   unfolding product sum sums profile.jerk profile.acceleration profile.velocity profile.position
   step-fits k l =
       let t = at (h .ordered) D (suc k) in
@@ -86,4 +115,4 @@ module _ (X : ℤ) (a b c e D : ℕ) (h : WithinRange a b c e D) where
 
   pub snap-small : D ≤ 2 ^ 60
   unfolding product
-  snap-small = below D (e ∷ c ∷ b ∷ []) [] refl (subst (λ (n : ℕ). n ≤ D * a) (mul-one D) (mul-le-mul-left D (h .ordered .one-a)))
+  snap-small = below D (e ∷ c ∷ b ∷ []) [] refl one-step

@@ -22,15 +22,15 @@ earlier f (suc n) (suc k) = earlier f n k
 unfoldable pub upTo : (N : ℕ) → (ℕ → ℤ) → ℕ → ℤ
 upTo N f k = cond (leb k N) (f k) (pos 0)
 
--- Of a move of N samples with these values.
-module _ (N : ℕ) (snap jerk acceleration velocity : ℕ → ℤ) where
+-- Of a move with these values at each sample.
+module _ (snap jerk acceleration velocity : ℕ → ℤ) where
   unfoldable pub doubled : ℕ → Doubled ℤ
   doubled k =
       record {
-        d2 = pos 2 *ℤ earlier (upTo N snap) 2 k;
-        j2 = earlier (upTo N jerk) 1 k +ℤ earlier (upTo N jerk) 2 k;
-        a2 = pos 2 *ℤ earlier (upTo N acceleration) 1 k;
-        v2 = earlier (upTo N velocity) 0 k +ℤ earlier (upTo N velocity) 1 k;
+        d2 = pos 2 *ℤ earlier snap 2 k;
+        j2 = earlier jerk 1 k +ℤ earlier jerk 2 k;
+        a2 = pos 2 *ℤ earlier acceleration 1 k;
+        v2 = earlier velocity 0 k +ℤ earlier velocity 1 k;
       }
 
 -- Cast to floats: a zero becomes +0.0.

@@ -11,6 +11,7 @@ pub mod Exact
 pub mod Result
 pub mod Sampling
 pub mod Tables
+pub mod ForceTable
 pub mod Answer
 pub mod Demand3
 pub mod Inner

@@ -2,7 +2,7 @@
 use crate::state::State;
 ghost use mathlib.Core.Path.{_≡_};
 ghost use Rattle.motion.specs.Exact.{Castable};
-ghost use Rattle.motion.specs.Inner.Rows.{earlierNext, doubledBy, doubledNumbers};
+ghost use Rattle.motion.specs.Inner.Rows.{noneEarlier, earlierNext, doubledBy, doubledNumbers};
 
 // What row k needs of the samples before k: the values at k−1 and at k−2.
 pub(crate) struct Earlier {
@@ -12,6 +12,20 @@ pub(crate) struct Earlier {
     pub jerk2: i64,
     pub acceleration1: i64,
     pub velocity1: i64,
+}
+
+// Before sample 0 all values are 0.
+pub(crate) fn none_earlier() -> Earlier
+    ensures { λ r. ⌜ r ≡ noneEarlier ⌝ }
+{
+    Earlier {
+        snap1: 0,
+        snap2: 0,
+        jerk1: 0,
+        jerk2: 0,
+        acceleration1: 0,
+        velocity1: 0,
+    }
 }
 
 // What the next row needs: all values are one sample further back.

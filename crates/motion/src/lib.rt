@@ -4,6 +4,8 @@ mod coefficients;
 mod count;
 mod doubled;
 mod drive;
+mod feedforward;
+mod force_table;
 mod machine_range;
 mod planned;
 mod refusal;
@@ -12,9 +14,11 @@ mod segments;
 mod snap;
 mod state;
 mod store;
+mod store_rows;
 mod sums;
 mod table;
 
+use crate::force_table::write_forces;
 use crate::planned::samples_in_plan;
 use crate::refusal::unplanned;
 use crate::sums::sample_in_plan;
@@ -25,7 +29,8 @@ use planner::Refusal;
 ghost use mathlib.Core.Path.{_≡_};
 ghost use Rattle.motion.specs.Sampling.{Samples};
 ghost use Rattle.motion.specs.Tables.{FillsPositions, FillsReference};
-ghost use Rattle.motion.specs.Answer.{number, sampleOutcome, tableOutcome};
+ghost use Rattle.motion.specs.ForceTable.{FillsForce};
+ghost use Rattle.motion.specs.Answer.{number, machineOf, sampleOutcome, tableOutcome};
 
 // The values at a sample: snap, jerk, acceleration, velocity and position in sub-count units, and the position to the nearest count.
 pub struct Sample {
@@ -100,6 +105,17 @@ pub fn fill_reference(m: Move, table: &mut [i64]) -> TableAnswer
         return TableAnswer::Refused(unplanned(answer));
     };
     write_positions(table, m.displacement, plan)
+}
+
+// Fills a table with the force rows of a move and a machine at rows 0 to N+1, for the drive's feedforward.
+pub fn fill_force(m: Move, machine: Machine, table: &mut [f64]) -> TableAnswer
+    ensures { λ r. ⌜ FillsForce (m .displacement) (m .velocity) (m .acceleration) (m .jerk) (m .snap) (machineOf machine) (now (table .entry)) (tableOutcome r) (now (table .exit)) ⌝ }
+{
+    let answer = planner::plan_move(m);
+    let PlanAnswer::Planned(plan) = answer else {
+        return TableAnswer::Refused(unplanned(answer));
+    };
+    write_forces(table, m.displacement, plan, machine)
 }
 
 // The paper's number of a refusal.

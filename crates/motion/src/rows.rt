@@ -4,14 +4,17 @@ use crate::doubled::Doubled;
 use crate::doubled::Earlier;
 use crate::doubled::doubled_by;
 use crate::doubled::earlier_next;
+use crate::doubled::none_earlier;
 use crate::drive::Drive;
+use crate::feedforward::Feedforward;
 use crate::state::State;
+use crate::state::at_rest;
 use crate::state::step;
 ghost use mathlib.Core.Path.{_≡_};
 ghost use Rattle.motion.specs.Exact.{Castable};
 ghost use Rattle.motion.specs.Answer.{driveKind};
 ghost use Rattle.motion.specs.Inner.Steps.{StepFits};
-ghost use Rattle.motion.specs.Inner.Rows.{doubledBy, doubledNumbers, uBy, forceBy, rowIn, advanced};
+ghost use Rattle.motion.specs.Inner.Rows.{doubledBy, doubledNumbers, uBy, forceBy, rowIn, firstRow, advanced};
 
 // The paper's u and the force of a row.
 pub(crate) struct Row {
@@ -44,14 +47,27 @@ fn force_of(drive: Drive, u: f64, previous: Row) -> f64
     }
 }
 
-pub(crate) fn row_in(q: Coefficients, drive: Drive, current: RowState) -> Row
+pub(crate) fn row_in(feedforward: Feedforward, current: RowState) -> Row
     requires { ⌜ Castable (doubledBy (current .state .velocity) (current .earlier)) ⌝ }
-    ensures { λ r. ⌜ r ≡ rowIn q (driveKind drive) current ⌝ }
+    ensures { λ r. ⌜ r ≡ rowIn feedforward current ⌝ }
 {
-    let u = u_of(q, doubled_by(current.state.velocity, current.earlier));
+    let drive = feedforward.drive;
+    let doubled = doubled_by(current.state.velocity, current.earlier);
+    let u = u_of(feedforward.q, doubled);
     Row {
         u,
         force: force_of(drive, u, current.previous),
+    }
+}
+
+// Before row 0: everything is 0.
+pub(crate) fn first_row() -> RowState
+    ensures { λ r. ⌜ r ≡ firstRow ⌝ }
+{
+    RowState {
+        state: at_rest(),
+        earlier: none_earlier(),
+        previous: Row { u: 0.0, force: 0.0 },
     }
 }
 

@@ -8,16 +8,18 @@ use crate::snap::levels_of;
 use crate::state::at_rest;
 use crate::store::store_segment;
 use planner::Plan;
+ghost use mathlib.Core.List.{[]};
 ghost use Prim.Native.Nat.{_+_, _≤_};
 ghost use Rattle.planner.specs.Durations.{N};
+ghost use Rattle.motion.specs.Direction.{position};
 ghost use Rattle.motion.specs.Answer.{tableOutcome};
-ghost use Rattle.motion.specs.Inner.Planned.{WithinRange, PositionsIn, WritesPositions};
+ghost use Rattle.motion.specs.Inner.Planned.{WithinRange, RowsIn, WritesRows};
 
 // Writes the positions at samples 0 to N. The last row is that of a sample with no snap.
 fn fill_table(table: &mut [i64], displacement: i64, plan: Plan)
     requires { ⌜ WithinRange (plan .a) (plan .b) (plan .c) (plan .e) (plan .snap) ⌝ }
     requires { do ⌜ N (plan .a) (plan .b) (plan .c) (plan .e) + 1 ≤ (← ⟦table.len()⟧) ⌝ }
-    ensures { λ r. ⌜ PositionsIn displacement (plan .a) (plan .b) (plan .c) (plan .e) (plan .snap) (now (table .entry)) (now (table .exit)) ⌝ }
+    ensures { λ r. ⌜ RowsIn (N (plan .a) (plan .b) (plan .c) (plan .e) + 1) (position displacement (plan .a) (plan .b) (plan .c) (plan .e) (plan .snap)) (now (table .entry)) (now (table .exit)) ⌝ }
 {
     let levels = levels_of(displacement, plan.snap);
     let durations = durations_of(plan);
@@ -34,7 +36,7 @@ fn fill_table(table: &mut [i64], displacement: i64, plan: Plan)
 // The rows of a plan where the table has room for them, else refusal 8.
 pub(crate) fn write_positions(table: &mut [i64], displacement: i64, plan: Plan) -> TableAnswer
     requires { ⌜ WithinRange (plan .a) (plan .b) (plan .c) (plan .e) (plan .snap) ⌝ }
-    ensures { λ r. ⌜ WritesPositions displacement (plan .a) (plan .b) (plan .c) (plan .e) (plan .snap) (now (table .entry)) (tableOutcome r) (now (table .exit)) ⌝ }
+    ensures { λ r. ⌜ WritesRows [] (N (plan .a) (plan .b) (plan .c) (plan .e) + 1) (position displacement (plan .a) (plan .b) (plan .c) (plan .e) (plan .snap)) (now (table .entry)) (tableOutcome r) (now (table .exit)) ⌝ }
 {
     let rows = samples_in_plan(plan) + 1;
     if (table.len() as u64) < rows {

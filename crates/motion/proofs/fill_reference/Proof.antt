@@ -38,7 +38,7 @@ returns-2 c =
     let d = c .before .before .before .before .before in
     let back = toZ-ofZ {w = w64} {z = d .before .before .before .args .m .displacement} (record { sfits = c .before .before .struct-told .given .0 .1 }) in
     let h = entered (d .before .before .plan-move .ensures) (d .answer .given .1) in
-    fills h (rows-are h) (position-is h) (rw back at (c .before .write-positions .ensures))
+    fills h (rows-are h 1) (position-is h) (rw back at (c .before .write-positions .ensures))
 
 pub fill-reference-spec : {M : Type 1} → statement M
 fill-reference-spec =

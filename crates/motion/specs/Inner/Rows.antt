@@ -1,19 +1,23 @@
 -- A row of a force table from what is carried along, and what is carried on.
-use mathlib.Core.Path.{_≡_}
+use mathlib.Core.Path.{_≡_, refl}
 use Prim.Native.Nat.{ℕ, _+_}
 use lib.IntN.{ℤ, pos, _+ℤ_, _*ℤ_}
 use lib.Ieee.{Float, binary64, add, mul, div}
-use Rattle.motion.specs.Machine.{Machine}
+use Rattle.motion.specs.Machine.{Machine, plusZero}
 use Rattle.motion.specs.Doubled.{Doubled, cast}
 use Rattle.motion.specs.Formula.{floats, q1, q2, q3, q4}
-use Rattle.motion.specs.Force.{DriveKind, rigid, filtered, half, filteredForce}
+use Rattle.motion.specs.Force.{DriveKind, rigid, filtered, half, driveOf, filteredForce}
+use Rattle.motion.specs.Exact.{Castable}
+use Rattle.motion.specs.Answer.{driveKind}
 use Rattle.motion.specs.declared.coefficients.Coefficients.{Coefficients}
+use Rattle.motion.specs.declared.feedforward.Feedforward.{Feedforward}
 use Rattle.motion.specs.declared.rows.Row.{Row}
 use Rattle.motion.specs.declared.rows.RowState.{RowState}
 use Rattle.motion.specs.declared.doubled.Doubled as code
 use Rattle.motion.specs.declared.doubled.Earlier.{Earlier}
 use Rattle.motion.specs.declared.state.State.{State}
-use Rattle.motion.specs.Inner.Steps.{stepped}
+use Rattle.motion.specs.Inner.Steps.{stepped, rest, StepFits}
+use Rattle.motion.specs.Inner.Runs.{Writer}
 
 pub record AreCoefficients (m : Machine Float) (q : Coefficients) : Type 0 where
   pub q1-is : q .q1 ≡ q1 floats m
@@ -58,10 +62,36 @@ unfoldable pub forceBy : DriveKind → (u : Float) → (previous : Row) → Floa
 forceBy (rigid stiffness) u previous = div binary64 u stiffness
 forceBy (filtered alpha beta) u previous = filteredForce alpha beta (previous .force) u (previous .u)
 
-abbrev pub rowIn : Coefficients → DriveKind → RowState → Row
-rowIn q d s =
-    let u = uBy q (doubledBy (s .state .velocity) (s .earlier)) in
-    record { u = u; force = forceBy d u (s .previous) }
+pub record IsFeedforward (m : Machine Float) (x : Feedforward) : Type 0 where
+  pub coefficients : AreCoefficients m (x .q)
+  pub drive-is : driveKind (x .drive) ≡ driveOf (m .k12) (m .c)
+
+abbrev pub rowIn : Feedforward → RowState → Row
+rowIn x s =
+    let u = uBy (x .q) (doubledBy (s .state .velocity) (s .earlier)) in
+    record { u = u; force = forceBy (driveKind (x .drive)) u (s .previous) }
+
+abbrev pub noneEarlier : Earlier
+noneEarlier = record { snap1 = pos 0; snap2 = pos 0; jerk1 = pos 0; jerk2 = pos 0; acceleration1 = pos 0; velocity1 = pos 0 }
+
+abbrev pub firstRow : RowState
+firstRow = record { state = rest; earlier = noneEarlier; previous = record { u = plusZero; force = plusZero } }
 
 abbrev pub advanced : RowState → (snap : ℤ) → Row → RowState
 advanced s snap row = record { state = stepped (s .state) snap; earlier = earlierNext (s .earlier) (s .state) snap; previous = row }
+
+-- A row can be made and stepped over.
+pub record RowFits (s : RowState) (x : ℤ) : Type 0 where
+  pub step : StepFits (s .state) x
+  pub casts : Castable (doubledBy (s .state .velocity) (s .earlier))
+
+-- The force rows of a machine.
+abbrev pub forceWriter : Feedforward → Writer RowState Float
+forceWriter x =
+    record {
+      step = λ s snap. advanced s snap (rowIn x s);
+      row = λ s. rowIn x s .force;
+      place = λ s. s .state .sample;
+      Fits = RowFits;
+      next-place = λ s snap. refl;
+    }

@@ -35,11 +35,18 @@ returns c =
     let x = d .args .earlier in
     let t = c .struct-told4 .given .1 in
     let p = d .pre in
-    rw
-    (toZ-ofZ {w = w64} {z = x .snap2} (record { sfits = t .0 .1 }), toZ-ofZ {w = w64} {z = x .jerk1} (record { sfits = t .1 .0 .1 }),
-    toZ-ofZ {w = w64} {z = x .jerk2} (record { sfits = t .1 .1 .0 .1 }), toZ-ofZ {w = w64} {z = x .acceleration1} (record { sfits = t .1 .1 .1 .0 .1 }),
-    toZ-ofZ {w = w64} {z = x .velocity1} (record { sfits = t .1 .1 .1 .1 .0 .1 }), toZ-ofZ {w = w64} {z = d .args .velocity} (d .fits .velocity),
-    toZ-ofZ (within-53 _ (p .d2)), toZ-ofZ (within-53 _ (p .j2)), toZ-ofZ (within-53 _ (p .a2)), toZ-ofZ (within-53 _ (p .v2)))
+    rw (
+      toZ-ofZ {w = w64} {z = x .snap2} (record { sfits = t .0 .1 }),
+      toZ-ofZ {w = w64} {z = x .jerk1} (record { sfits = t .1 .0 .1 }),
+      toZ-ofZ {w = w64} {z = x .jerk2} (record { sfits = t .1 .1 .0 .1 }),
+      toZ-ofZ {w = w64} {z = x .acceleration1} (record { sfits = t .1 .1 .1 .0 .1 }),
+      toZ-ofZ {w = w64} {z = x .velocity1} (record { sfits = t .1 .1 .1 .1 .0 .1 }),
+      toZ-ofZ {w = w64} {z = d .args .velocity} (d .fits .velocity),
+      toZ-ofZ (within-53 _ (p .d2)),
+      toZ-ofZ (within-53 _ (p .j2)),
+      toZ-ofZ (within-53 _ (p .a2)),
+      toZ-ofZ (within-53 _ (p .v2)),
+    )
     refl
 
 pub doubled-by-spec : {M : Type 1} → statement M

@@ -28,8 +28,8 @@ force-of-requires c κs = search needs
 returns : tie.Need-returns
 returns c =
     let a = c .before .before .before .before .args in
-    let u = c .before .u-of .ensures ∙ ap (uBy (a .q)) (doubled (c .before .before)) in
-    let force = c .force-of .ensures ∙ ap (λ x. forceBy (driveKind (a .drive)) x (a .current .previous)) u in
+    let u = c .before .u-of .ensures ∙ ap (uBy (a .feedforward .q)) (doubled (c .before .before)) in
+    let force = c .force-of .ensures ∙ ap (λ x. forceBy (driveKind (a .feedforward .drive)) x (a .current .previous)) u in
     λ i. record { u = u i; force = force i }
 
 pub row-in-spec : {M : Type 1} → statement M

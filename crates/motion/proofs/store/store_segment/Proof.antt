@@ -9,14 +9,14 @@ use mir.Facts.{toZ-ofZ}
 use lib.IntN.{ℤ}
 use lib.ListN.{replicate, length}
 use Rattle.motion.specs.declared.state.State.{State}
-use Rattle.motion.specs.Inner.Runs.{Ran}
+use Rattle.motion.specs.Inner.Runs.{positionWriter, Ran}
 use Rattle.motion.proofs.RunLaws.{Remaining, all-left, one-done, one-of, first-fits, none-of, ran-length}
 use Rattle.motion.proofs.store.store_segment.Statement.{statement}
 use Rattle.motion.proofs.store.store_segment.Tie as tie
 
 abbrev Inv-loop : tie.InvT-loop
 Inv-loop table₀ count snap current₀ left₀ table current left =
-    Remaining (replicate left (toZ w64 snap)) current table (replicate count (toZ w64 snap)) current₀ table₀
+    Remaining positionWriter (replicate left (toZ w64 snap)) current table (replicate count (toZ w64 snap)) current₀ table₀
 
 abbrev μ-loop : tie.MeasureT-loop
 μ-loop table₀ count snap current₀ left₀ table current left = left
@@ -29,7 +29,7 @@ abbrev snap : tie.Start Inv-loop μ-loop → ℤ
 snap d = toZ w64 (ofZ w64 (d .args .snap))
 
 abbrev Remains : tie.Start Inv-loop μ-loop → List ℤ → State → List ℤ → Type 0
-Remains d xs state table = Remaining xs state table (replicate (d .args .count) (snap d)) (d .args .state) (d .args .table .now)
+Remains d xs state table = Remaining positionWriter xs state table (replicate (d .args .count) (snap d)) (d .args .state) (d .args .table .now)
 
 -- there is a snap left
 begun :
@@ -61,7 +61,7 @@ loop-again c =
     (one-done (begun (c .before .before)))
 
 abbrev Made : tie.After-loop Inv-loop μ-loop → ℤ → Type 0
-Made c x = Ran (replicate (c .before .before .args .count) x) (c .before .before .args .state) (c .before .before .args .table .now) (c .before .loop .table) (c .before .loop .current)
+Made c x = Ran positionWriter (replicate (c .before .before .args .count) x) (c .before .before .args .state) (c .before .before .args .table .now) (c .before .loop .table) (c .before .loop .current)
 
 ran : (c : tie.After-loop Inv-loop μ-loop) → Made c (c .before .before .args .snap)
 ran c = subst (Made c) (toZ-ofZ (c .before .before .fits .snap)) (none-of _ _ (c .loop-test .left) (c .before .loop .inv))

@@ -3,7 +3,7 @@ use borrow.Author.Needs.{needs}
 use mathlib.Core.List.{[], _∷_}
 use mathlib.Core.Path.{_≡_, sym, ap, subst, _∙_}
 use Prim.Native.Nat.{ℕ}
-use native.Mathlib.Nat.{le-trans, le-of-lt}
+use native.Mathlib.Omega.{arith}
 use mir.Syntax.{w64}
 use mir.Facts.{toZ-ofZ}
 use lib.IntN.{ℤ}
@@ -43,9 +43,8 @@ levels c =
 sum-to-requires : tie.Need-sum-to-requires
 sum-to-requires c κs =
     let p = c .before .pre in
-    let most = le-trans (p .1) (p .0 .samples) in
     subst (λ (f : ℕ → ℤ). StepsFitBy f (c .before .args .k)) (sym (levels c))
-    (record { step-fits = λ i l. step-fits (c .before .args .displacement) _ _ _ _ _ (p .0) i (le-trans (le-of-lt l) most) })
+    (record { step-fits = λ i l. step-fits (c .before .args .displacement) _ _ _ _ _ (p .0) i (omega (arith, l, p .1, p .0 .samples)) })
 
 snap-at-requires : tie.Need-snap-at-requires
 snap-at-requires c κs = search needs

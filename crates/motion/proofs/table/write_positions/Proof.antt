@@ -1,11 +1,8 @@
 -- `write_positions` meets its contract. Assumes nothing.
-use mathlib.Core.Path.{sym, subst}
-use Prim.Native.Nat.{ℕ, _+_}
+use mathlib.Core.List.{[]}
 use native.Mathlib.Omega.{arith}
 use mir.Syntax.{w64}
 use mir.Facts.{toZ-ofZ}
-use Rattle.motion.specs.Result.{given}
-use Rattle.motion.specs.Inner.Planned.{WritesPositions}
 use Rattle.motion.proofs.FillLaws.{short, written}
 use borrow.Author.Needs.{needs}
 use Rattle.motion.proofs.table.write_positions.Statement.{statement}
@@ -18,7 +15,7 @@ add-rows : tie.Need-add-rows
 add-rows c = search needs
 
 returns : tie.Need-returns
-returns c = short _ _ _ _ _ _ _ (omega (arith, c .if1 .taken, c .before .samples-in-plan .ensures))
+returns c = short [] (omega (arith, c .if1 .taken, c .before .samples-in-plan .ensures))
 
 fill-table-requires : tie.Need-fill-table-requires
 fill-table-requires c κs = search needs
@@ -29,12 +26,11 @@ same-length c = search needs
 returns-2 : tie.Need-returns-2
 returns-2 c =
     let d = c .before .before .before in
-    let back = toZ-ofZ {w = w64} {z = d .before .before .args .displacement} (d .before .before .fits .displacement) in
     let a = d .before .before .args in
-    subst
-    (λ (n : ℕ). WritesPositions (a .displacement) (a .plan .a) (a .plan .b) (a .plan .c) (a .plan .e) (a .plan .snap) (a .table .now) (given (n + 1)) (c .before .fill-table .last .0))
-    (sym (d .before .samples-in-plan .ensures))
-    (written _ _ _ _ _ _ _ (rw (d .before .samples-in-plan .ensures) at (d .if1 .left)) (rw back at (c .before .fill-table .ensures)))
+    let back = toZ-ofZ {w = w64} {z = a .displacement} (d .before .before .fits .displacement) in
+    let rows = d .before .samples-in-plan .ensures in
+    let result = written [] (rw rows at (d .if1 .left)) tt (rw back at (c .before .fill-table .ensures)) in
+    rw rows result
 
 pub write-positions-spec : {M : Type 1} → statement M
 write-positions-spec =

@@ -1,0 +1,56 @@
+-- `fill_force` meets its contract: the planner's answer, taken apart, leads to the refusal or to the plan's rows. Assumes nothing.
+use borrow.Author.Needs.{needs}
+use mir.Syntax.{w64}
+use mir.Facts.{toZ-ofZ}
+use Rattle.motion.specs.ForceTable.{FillsForce}
+use Rattle.motion.proofs.EntryLaws.{entered, not-planned, within-range, rows-are, force-is}
+use Rattle.motion.proofs.FillLaws.{fills-refused, fills}
+use Rattle.motion.proofs.fill_force.Statement.{statement}
+use Rattle.motion.proofs.fill_force.Tie as tie
+
+plan-move-requires : tie.Need-plan-move-requires
+plan-move-requires c κs = search needs
+
+enum-known-answer : tie.Need-enum-known-answer
+enum-known-answer c = search needs
+
+enum-told : tie.Need-enum-told
+enum-told c = search needs
+
+unplanned-requires : tie.Need-unplanned-requires
+unplanned-requires c κs = not-planned (c .enum-told .given .1)
+
+returns : tie.Need-returns
+unfolding FillsForce
+returns c = fills-refused (c .before .before .before .plan-move .ensures) (c .unplanned .ensures)
+
+write-forces-requires : tie.Need-write-forces-requires
+write-forces-requires c κs =
+    let d = c .before .before .before in
+    within-range (entered (d .before .before .plan-move .ensures) (d .answer .given .1))
+
+same-length : tie.Need-same-length
+same-length c = search needs
+
+returns-2 : tie.Need-returns-2
+unfolding FillsForce
+returns-2 c =
+    let w = c .before .before in
+    let d = w .before .before .before .before in
+    let displacement = d .before .before .before .before .args .m .displacement in
+    let back = toZ-ofZ {w = w64} {z = displacement} (record { sfits = w .before .struct-told .given .0 .1 }) in
+    let h = entered (d .before .before .plan-move .ensures) (d .answer .given .1) in
+    fills h (rows-are h 2) (force-is h _) (rw back at (w .write-forces .ensures))
+
+pub fill-force-spec : {M : Type 1} → statement M
+fill-force-spec =
+    tie.close
+    (tie.spec
+    plan-move-requires
+    enum-known-answer
+    enum-told
+    unplanned-requires
+    returns
+    write-forces-requires
+    same-length
+    returns-2)
