@@ -1,10 +1,14 @@
 //! Test vectors: an input file and the output that the reference gives for it.
 
+mod conditions;
 pub mod motion;
 pub mod planner;
 mod splitmix;
 mod store;
+mod table_text;
 
+use std::collections::HashSet;
+use std::hash::Hash;
 use std::path::Path;
 
 /// The two files of one kind of vectors.
@@ -37,4 +41,11 @@ pub fn run(action: &str, kind: &str, dir: &Path) -> Result<(), Failure> {
     };
     made.and_then(|files| store(dir, &files))
         .map_err(|message| Failure::Message(format!("{kind} vectors: {message}")))
+}
+
+/// The list without what has stood in it before.
+fn without_repeats<T: Copy + Eq + Hash>(mut list: Vec<T>) -> Vec<T> {
+    let mut seen = HashSet::new();
+    list.retain(|entry| seen.insert(*entry));
+    list
 }
