@@ -1,6 +1,7 @@
 //! Test vectors: an input file and the output that the reference gives for it.
 
 mod conditions;
+pub mod force;
 pub mod motion;
 pub mod planner;
 mod splitmix;
@@ -37,6 +38,7 @@ pub fn run(action: &str, kind: &str, dir: &Path) -> Result<(), Failure> {
     let made = match kind {
         "planner" => planner::files(),
         "motion" => motion::files(),
+        "force" => force::files(),
         _ => return Err(Failure::Usage),
     };
     made.and_then(|files| store(dir, &files))

@@ -23,11 +23,11 @@ impl Coefficients {
         }
     }
 
-    /// The signal before the drive (u in the paper). The profiles are doubled
-    /// until here, so the halves of a sample are halved in floats.
+    /// What the drive gets (u in the paper). Halving is left to the end, since
+    /// only the doubled numbers are whole.
     pub fn u(&self, row: Doubled) -> f64 {
         let Coefficients { q1, q2, q3, q4 } = *self;
-        // Twice a value of 2^50 at most: every cast is exact, and 0 is plus zero.
+        // Each is 2^51 at most: every cast is exact, and 0 becomes plus zero.
         let [d2, j2, a2, v2] = [row.d2, row.j2, row.a2, row.v2].map(|x| x as f64);
         (q1 * d2 + q2 * j2 + q3 * a2 + q4 * v2) * 0.5
     }

@@ -46,8 +46,7 @@ fn accepted(motion: &Move, machine: &Machine, places: usize) -> Result<(Profile,
 /// Fills the table one segment after the other; `force` is what the drive makes
 /// of u, row after row.
 ///
-/// The additions are the wrapping ones for the reason that they are in the
-/// table of positions.
+/// The additions wrap for the same reason as in the table of positions.
 fn fill(profile: &Profile, q: &Coefficients, table: &mut [f64], mut force: impl FnMut(f64) -> f64) {
     // At row k: the jerk of sample k-2, and both others of sample k-1. The sums
     // hold before sample 0 and after N too, where all of these are 0.
