@@ -21,9 +21,10 @@ use std::iter;
 /// What a table entry says.
 #[derive(Clone, Copy, Debug, PartialEq, Eq)]
 pub enum TableAnswer {
-    /// The number of the refusal, 1 to 8; nothing was written.
+    /// The number of the refusal, 1 to 8, or 10 for a machine; nothing was
+    /// written.
     Refused(u8),
-    /// The number of rows written, N+1: places 0 to N.
+    /// The number of rows written, from place 0 on.
     Written(u64),
 }
 
@@ -52,11 +53,11 @@ impl Profile {
         })
     }
 
-    /// The profile of a move whose samples 0 to N fit this many places, or the
-    /// refusal, 1 to 8.
-    fn fitting(motion: &Move, places: usize) -> Result<Profile, u8> {
+    /// The profile of a move for a table of N and `more` rows, if they fit this
+    /// many places, or the refusal, 1 to 8.
+    pub(crate) fn fitting(motion: &Move, places: usize, more: u64) -> Result<Profile, u8> {
         let profile = Profile::of(motion)?;
-        if (places as u64) <= profile.duration {
+        if (places as u64) < profile.duration + more {
             return Err(8);
         }
         Ok(profile)

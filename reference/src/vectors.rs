@@ -1,10 +1,15 @@
 //! Test vectors: an input file and the output that the reference gives for it.
 
+mod conditions;
+pub mod force;
 pub mod motion;
 pub mod planner;
 mod splitmix;
 mod store;
+mod table_text;
 
+use std::collections::HashSet;
+use std::hash::Hash;
 use std::path::Path;
 
 /// The two files of one kind of vectors.
@@ -33,8 +38,16 @@ pub fn run(action: &str, kind: &str, dir: &Path) -> Result<(), Failure> {
     let made = match kind {
         "planner" => planner::files(),
         "motion" => motion::files(),
+        "force" => force::files(),
         _ => return Err(Failure::Usage),
     };
     made.and_then(|files| store(dir, &files))
         .map_err(|message| Failure::Message(format!("{kind} vectors: {message}")))
+}
+
+/// The list without what has stood in it before.
+fn without_repeats<T: Copy + Eq + Hash>(mut list: Vec<T>) -> Vec<T> {
+    let mut seen = HashSet::new();
+    list.retain(|entry| seen.insert(*entry));
+    list
 }

@@ -13,7 +13,11 @@ fn vectors(action: &str, kind: &str, dir: &Path) -> Output {
 }
 
 /// The kinds, with the bytes of an input line and the lines of the output.
-const KINDS: [(&str, usize, usize); 2] = [("planner", 105, 3_200), ("motion", 149, 6_644)];
+const KINDS: [(&str, usize, usize); 3] = [
+    ("planner", 105, 3_200),
+    ("motion", 149, 6_644),
+    ("force", 273, 907),
+];
 
 /// Fresh vectors in a directory of this name.
 fn written(kind: &str, name: &str) -> PathBuf {
@@ -75,8 +79,10 @@ fn missing_files_fail_the_check() {
 #[test]
 fn one_kind_is_not_the_other() {
     let dir = written("motion", "other_kind");
-    let output = vectors("check", "planner", &dir);
-    assert_eq!(output.status.code(), Some(1));
+    for kind in ["planner", "force"] {
+        let output = vectors("check", kind, &dir);
+        assert_eq!(output.status.code(), Some(1));
+    }
 }
 
 #[test]
@@ -89,7 +95,10 @@ fn wrong_words_are_a_usage_error() {
     let output = output.expect("the command starts");
     assert_eq!(output.status.code(), Some(2));
     let message = String::from_utf8_lossy(&output.stderr);
-    assert_eq!(message, "usage: vectors write|check planner|motion DIR\n");
+    assert_eq!(
+        message,
+        "usage: vectors write|check planner|motion|force DIR\n"
+    );
 }
 
 #[test]

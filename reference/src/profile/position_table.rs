@@ -6,7 +6,7 @@ use crate::planner::Move;
 /// Writes the positions at samples 0 to N and keeps every later place, or
 /// writes nothing and refuses.
 pub fn position_table(motion: &Move, table: &mut [i64]) -> TableAnswer {
-    let profile = match Profile::fitting(motion, table.len()) {
+    let profile = match Profile::fitting(motion, table.len(), 1) {
         Ok(profile) => profile,
         Err(number) => return TableAnswer::Refused(number),
     };

@@ -4,23 +4,23 @@ mod ask;
 mod coverage;
 mod entries;
 mod halves;
-mod long;
+pub(super) mod long;
 mod mixed;
 mod paper;
-mod refused;
+pub(super) mod refused;
 mod request;
-mod shapes;
-mod short;
+pub(super) mod shapes;
+pub(super) mod short;
 mod text;
 
 pub use coverage::missing;
 pub use entries::{Entries, Reference};
-pub use request::{Kind, Request, MOST_PLACES};
+pub use request::{Kind, Request};
 pub use text::output;
 
+use super::conditions::complete;
 use super::splitmix::SplitMix64;
-use super::Files;
-use std::collections::HashSet;
+use super::{without_repeats, Files};
 
 /// Any fixed number would do; the coverage check says whether it is good enough.
 const SEED: u64 = 4001;
@@ -37,22 +37,11 @@ pub fn requests() -> Vec<Request> {
     list.extend(long::requests(&mut random));
     list.extend(halves::requests(&mut random));
     list.extend(mixed::requests(&mut random));
-    let mut seen = HashSet::new();
-    list.retain(|request| seen.insert(*request));
-    list
+    without_repeats(list)
 }
 
 /// Both files, or the conditions that the requests do not meet.
 pub fn files() -> Result<Files, String> {
     let requests = requests();
-    let mut missing = missing(&requests);
-    let files = text::files(&requests);
-    let bytes = files.stdin.len() + files.stdout.len();
-    if bytes > MOST_BYTES {
-        missing.push(format!("at most {MOST_BYTES} bytes, not {bytes}"));
-    }
-    if !missing.is_empty() {
-        return Err(format!("conditions not met: {}", missing.join("; ")));
-    }
-    Ok(files)
+    complete(text::files(&requests), missing(&requests), MOST_BYTES)
 }

@@ -15,6 +15,7 @@ mod wrapping;
 
 pub use coverage::missing;
 
+use super::conditions::complete;
 use super::splitmix::SplitMix64;
 use super::Files;
 use crate::planner::Move;
@@ -22,6 +23,9 @@ use std::collections::HashSet;
 
 /// Any fixed number would do; the coverage check says whether it is good enough.
 const SEED: u64 = 2003;
+
+/// The most bytes that both files may have together.
+const MOST_BYTES: usize = 600_000;
 
 /// How many moves the list holds.
 const MOVES: usize = 3_200;
@@ -49,9 +53,5 @@ pub fn moves() -> Vec<Move> {
 /// Both files, or the conditions that the moves do not meet.
 pub fn files() -> Result<Files, String> {
     let moves = moves();
-    let missing = missing(&moves);
-    if !missing.is_empty() {
-        return Err(format!("conditions not met: {}", missing.join("; ")));
-    }
-    Ok(text::files(&moves))
+    complete(text::files(&moves), missing(&moves), MOST_BYTES)
 }

@@ -6,16 +6,15 @@ mod shapes;
 mod tables;
 
 use super::mixed::LARGE_SHORTFALL;
-use super::request::{Request, MOST_PLACES};
+use super::request::Request;
 use crate::planner::{plan, Answer, Move};
+use crate::vectors::conditions::{unmet, Condition};
 use crate::vectors::planner::paper;
+use crate::vectors::table_text::MOST_PLACES;
 use std::collections::{HashMap, HashSet};
 
 const LEAST_MOVES: usize = 400;
 const LEAST_LARGE_SHORTFALLS: usize = 100;
-
-/// A condition in words, and whether it is met.
-type Condition = (String, bool);
 
 /// The conditions that the requests do not meet; none if the list is good.
 pub fn missing(requests: &[Request]) -> Vec<String> {
@@ -26,8 +25,7 @@ pub fn missing(requests: &[Request]) -> Vec<String> {
     conditions.extend(tables::conditions(&asked));
     conditions.extend(shapes::conditions(&asked));
     conditions.extend(halves::conditions(&asked));
-    let unmet = conditions.into_iter().filter(|(_, met)| !met);
-    unmet.map(|(name, _)| name).collect()
+    unmet(conditions)
 }
 
 /// The requests with the plans of their moves, and the samples of each move.

@@ -36,7 +36,7 @@ pub fn requests(random: &mut SplitMix64) -> Vec<Request> {
 }
 
 /// A positive move of this shape and duration, and of this size if one is given.
-fn long_move(
+pub fn long_move(
     shape: Shape,
     [shortest, longest]: [u64; 2],
     size: Option<i64>,

@@ -26,7 +26,7 @@ pub fn requests(random: &mut SplitMix64) -> Vec<Request> {
 }
 
 /// A refusal 7 by one sample, and by more.
-fn too_long(random: &mut SplitMix64) -> Vec<Move> {
+pub fn too_long(random: &mut SplitMix64) -> Vec<Move> {
     let moves = longest::moves(random);
     let lasts = |range: std::ops::Range<u128>| {
         let too_long = move |motion: &&Move| {

@@ -2,9 +2,6 @@
 
 use crate::planner::Move;
 
-/// The most places that a table of the vectors has.
-pub const MOST_PLACES: u64 = 4_200;
-
 /// Which entry is asked.
 #[derive(Clone, Copy, Debug, PartialEq, Eq, Hash)]
 pub enum Kind {

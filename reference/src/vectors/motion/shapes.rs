@@ -1,6 +1,6 @@
 //! Moves made for a shape: which of the durations q, r and s are not 0.
 
-use crate::planner::{plan, Move, COUNT_GRAINS, LARGEST_BOUND, LARGEST_DISPLACEMENT};
+use crate::planner::{plan, Answer, Move, COUNT_GRAINS, LARGEST_BOUND, LARGEST_DISPLACEMENT};
 use crate::vectors::planner::from_intervals::move_from;
 use crate::vectors::splitmix::SplitMix64;
 
@@ -18,6 +18,20 @@ pub fn shapes() -> [Shape; 8] {
 /// The shape of the durations p, q, r and s.
 pub fn shape_of([_, q, r, s]: [u64; 4]) -> Shape {
     [q > 0, r > 0, s > 0]
+}
+
+/// Whether the move is planned with this shape.
+pub fn has_shape(answer: &Answer, shape: Shape) -> bool {
+    answer
+        .phases()
+        .is_some_and(|phases| shape_of(phases) == shape)
+}
+
+/// The names of the durations that are not 0.
+pub fn shape_name(shape: Shape) -> String {
+    let letters = shape.into_iter().zip([" q", " r", " s"]);
+    let present = letters.filter(|(present, _)| *present);
+    present.fold("p".into(), |name, (_, letter)| name + letter)
 }
 
 /// What the draws give first; nothing if they give nothing.

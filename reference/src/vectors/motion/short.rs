@@ -17,15 +17,23 @@ pub fn requests(random: &mut SplitMix64) -> Vec<Request> {
     for shape in shapes() {
         for turn in 0..2 * MOVES {
             let direction = [1, -1][turn % 2];
-            let motion = drawn(random, |random| short_move(shape, direction, random));
+            let motion = drawn(random, |random| {
+                short_move(shape, direction, LONGEST, random)
+            });
             list.extend(motion.into_iter().flat_map(|motion| about(turn, &motion)));
         }
     }
     list
 }
 
-fn short_move(shape: Shape, direction: i64, random: &mut SplitMix64) -> Option<Move> {
-    let duration = random.between(8, LONGEST);
+/// A move of this shape that lasts at most `longest` samples.
+pub fn short_move(
+    shape: Shape,
+    direction: i64,
+    longest: u64,
+    random: &mut SplitMix64,
+) -> Option<Move> {
+    let duration = random.between(8, longest);
     let phases = phases(shape, duration, random)?;
     shaped(direction * size_for(phases, random), phases, random)
 }

@@ -2,11 +2,9 @@
 
 use super::entries::{Entries, Reference};
 use super::request::{Kind, Request};
-use crate::profile::{SampleAnswer, TableAnswer};
+use crate::profile::SampleAnswer;
+use crate::vectors::table_text::table_line;
 use crate::vectors::Files;
-
-/// Places of a table printed at most.
-const MOST_PRINTED: usize = 40;
 
 pub fn files(requests: &[Request]) -> Files {
     let lines = |request: &Request| output(&Reference, request);
@@ -43,7 +41,7 @@ pub fn output(entries: &impl Entries, request: &Request) -> String {
         Kind::Positions => entries.position_table(motion, &mut table),
         Kind::References => entries.reference_table(motion, &mut table),
     };
-    table_line(answer, &table, request.m)
+    table_line(answer, &table, request.m, |place| *place as u64)
 }
 
 /// What a place holds before the call: no two are alike, and none is a position.
@@ -59,22 +57,4 @@ fn sample_line(answer: SampleAnswer) -> String {
             format!("sample{values} {}\n", sample.count)
         }
     }
-}
-
-/// The answer, the sum over the whole table, and the places from `first` on.
-fn table_line(answer: TableAnswer, table: &[i64], first: u64) -> String {
-    let answer = match answer {
-        TableAnswer::Refused(number) => format!("refused {number}"),
-        TableAnswer::Written(rows) => format!("rows {rows}"),
-    };
-    let skipped = usize::try_from(first).unwrap_or(usize::MAX);
-    let printed = table.iter().skip(skipped).take(MOST_PRINTED);
-    let places: String = printed.map(|place| format!(" {place}")).collect();
-    format!("{answer} sum {}{places}\n", sum(table))
-}
-
-/// A number that any changed or exchanged place changes.
-fn sum(table: &[i64]) -> u64 {
-    let add = |sum: u64, place: &i64| sum.wrapping_mul(33).wrapping_add(*place as u64);
-    table.iter().fold(0, add)
 }

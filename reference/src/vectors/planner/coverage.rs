@@ -4,6 +4,7 @@ use super::field::BOUNDS;
 use crate::planner::{
     deciding_lower_limits, deciding_searches, plan, Answer, Intervals, Move, SEARCH_COUNT,
 };
+use crate::vectors::conditions::{unmet, Condition};
 
 const LEAST_MOVES: usize = 3_000;
 const LEAST_PLANNED_PERCENT: usize = 40;
@@ -41,12 +42,8 @@ pub fn missing(moves: &[Move]) -> Vec<String> {
     conditions.extend(durations(moves));
     conditions.extend(signs(moves));
     conditions.extend(edges(moves));
-    let unmet = conditions.into_iter().filter(|(_, met)| !met);
-    unmet.map(|(name, _)| name).collect()
+    unmet(conditions)
 }
-
-/// A condition in words, and whether it is met.
-type Condition = (String, bool);
 
 fn is_planned(motion: &Move) -> bool {
     matches!(plan(motion), Answer::Planned { .. })

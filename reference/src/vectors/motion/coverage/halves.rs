@@ -1,7 +1,8 @@
 //! Samples at and next to the middle between two counts.
 
-use super::{Asked, Condition};
+use super::Asked;
 use crate::profile::Profile;
+use crate::vectors::conditions::Condition;
 use crate::vectors::motion::halves::{above_half, NEAR};
 
 /// From this size on a 64-bit float takes a half for a position that is

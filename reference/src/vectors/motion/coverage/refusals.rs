@@ -1,7 +1,8 @@
 //! Every refusal, alone and where a higher number applies as well.
 
-use super::{Asked, Condition};
+use super::Asked;
 use crate::planner::{Answer, LARGEST_BOUND};
+use crate::vectors::conditions::Condition;
 use crate::vectors::motion::request::{Kind, Request, TABLES};
 
 pub fn conditions(asked: &Asked) -> Vec<Condition> {

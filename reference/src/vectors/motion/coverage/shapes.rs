@@ -1,10 +1,11 @@
 //! Short and long moves of every shape.
 
-use super::{Asked, Condition};
-use crate::planner::{Answer, Move, LARGEST_DISPLACEMENT};
+use super::Asked;
+use crate::planner::{Move, LARGEST_DISPLACEMENT};
 use crate::profile::Profile;
+use crate::vectors::conditions::Condition;
 use crate::vectors::motion::ask::borders;
-use crate::vectors::motion::shapes::{shape_of, shapes, Shape};
+use crate::vectors::motion::shapes::{has_shape, shape_name, shapes, Shape};
 use crate::vectors::motion::short::LONGEST;
 use std::ops::RangeInclusive;
 
@@ -19,19 +20,6 @@ pub fn conditions(asked: &Asked) -> Vec<Condition> {
     list
 }
 
-fn has_shape(answer: &Answer, shape: Shape) -> bool {
-    answer
-        .phases()
-        .is_some_and(|phases| shape_of(phases) == shape)
-}
-
-/// The names of the durations that are not 0.
-fn name(shape: Shape) -> String {
-    let letters = shape.into_iter().zip([" q", " r", " s"]);
-    let present = letters.filter(|(present, _)| *present);
-    present.fold("p".into(), |name, (_, letter)| name + letter)
-}
-
 /// A short move with all its samples.
 fn short(asked: &Asked, shape: Shape, direction: i64) -> Condition {
     let met = asked.plans.iter().any(|(motion, answer)| {
@@ -39,7 +27,7 @@ fn short(asked: &Asked, shape: Shape, direction: i64) -> Condition {
         let wanted = has_shape(answer, shape) && motion.displacement.signum() == direction;
         short && wanted && asked.is_whole(motion)
     });
-    let name = name(shape);
+    let name = shape_name(shape);
     (
         format!("all samples of {name} in direction {direction}"),
         met,
@@ -52,7 +40,7 @@ fn long(asked: &Asked, shape: Shape, durations: RangeInclusive<u64>) -> Conditio
         let long = answer.duration().is_some_and(|n| durations.contains(&n));
         long && has_shape(answer, shape) && at_borders(asked, motion)
     });
-    let (name, from, to) = (name(shape), durations.start(), durations.end());
+    let (name, from, to) = (shape_name(shape), durations.start(), durations.end());
     (format!("borders of {name} with N from {from} to {to}"), met)
 }
 

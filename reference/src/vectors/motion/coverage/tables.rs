@@ -1,7 +1,9 @@
 //! Tables of every length and direction.
 
-use super::{Asked, Condition};
+use super::Asked;
+use crate::vectors::conditions::Condition;
 use crate::vectors::motion::request::{Kind, TABLES};
+use crate::vectors::table_text::MOST_PRINTED;
 
 pub fn conditions(asked: &Asked) -> Vec<Condition> {
     let both = TABLES.into_iter();
@@ -33,7 +35,8 @@ fn of_kind(asked: &Asked, kind: Kind) -> Vec<Condition> {
         list.push((name, met(&holds)));
     }
     let name = format!("{kind:?} with the last row and the place after it in print");
-    let holds = |n, _, places, first| first <= n && n + 1 < places && n + 1 < first + 40;
+    let printed = MOST_PRINTED as u64;
+    let holds = |n, _, places, first| first <= n && n + 1 < places && n + 1 < first + printed;
     list.push((name, met(&holds)));
     list
 }
