@@ -3,7 +3,7 @@ use mathlib.Core.Bool.{Bool, cond}
 use mathlib.Core.Path.{_≡_}
 use Prim.Native.Nat.{ℕ, _≤_, _^_}
 use lib.IntN.{ℤ, pos, negℤ, natAbs, _+ℤ_, _*ℤ_}
-use lib.Ieee.{Float}
+use lib.Ieee.{Float, binary64, round}
 use lib.Ieee.Exact.{HasValue}
 use Rattle.motion.specs.Machine.{Machine}
 use Rattle.motion.specs.Doubled.{Doubled, cast}
@@ -26,6 +26,13 @@ IsWhole x z = IsFraction x z 1
 abbrev pub IsHalf : Float → ℤ → Type 0
 IsHalf x z = IsFraction x z 2
 
+-- The float x is z/n rounded once. The sign of a zero is left open.
+pub record IsRounded (x : Float) (z : ℤ) (n : ℕ) : Type 0 where
+  pub negative : Bool
+  pub size : ℕ
+  pub whole-is : z ≡ signed negative size
+  pub rounded : x ≡ round binary64 negative size n
+
 -- "the six numbers are whole"
 pub record IsWholeMachine (m : Machine Float) (whole : Machine ℤ) : Type 0 where
   pub m1 : IsWhole (m .m1) (whole .m1)
@@ -34,6 +41,13 @@ pub record IsWholeMachine (m : Machine Float) (whole : Machine ℤ) : Type 0 whe
   pub k2 : IsWhole (m .k2) (whole .k2)
   pub k12 : IsWhole (m .k12) (whole .k12)
   pub c : IsWhole (m .c) (whole .c)
+
+-- The row's doubled whole numbers are products and sums too: at most 2^53 in size, they are cast exactly.
+pub record Castable (w : Doubled ℤ) : Type 0 where
+  pub d2 : natAbs (w .d2) ≤ 2 ^ 53
+  pub j2 : natAbs (w .j2) ≤ 2 ^ 53
+  pub a2 : natAbs (w .a2) ≤ 2 ^ 53
+  pub v2 : natAbs (w .v2) ≤ 2 ^ 53
 
 -- A formula by how it is made; each number in it as a float and as the whole number that it stands for.
 pub data Made : Type 0 where
