@@ -35,3 +35,9 @@ pub mod HalfCountRule
 pub mod EndRule
 pub mod Demand3
 pub mod RuleAnswers
+-- Floats that are whole numbers, and what the force rows are exactly.
+pub mod SignedLaws
+pub mod SignedSums
+pub mod RoundedLaws
+pub mod WholeFloats
+pub mod Exactness

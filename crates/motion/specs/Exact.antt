@@ -3,7 +3,7 @@ use mathlib.Core.Bool.{Bool, cond}
 use mathlib.Core.Path.{_≡_}
 use Prim.Native.Nat.{ℕ, _≤_, _^_}
 use lib.IntN.{ℤ, pos, negℤ, natAbs, _+ℤ_, _*ℤ_}
-use lib.Ieee.{Float}
+use lib.Ieee.{Float, binary64, round}
 use lib.Ieee.Exact.{HasValue}
 use Rattle.motion.specs.Machine.{Machine}
 use Rattle.motion.specs.Doubled.{Doubled, cast}
@@ -25,6 +25,13 @@ IsWhole x z = IsFraction x z 1
 
 abbrev pub IsHalf : Float → ℤ → Type 0
 IsHalf x z = IsFraction x z 2
+
+-- The float x is z/n rounded once. The sign of a zero is left open.
+pub record IsRounded (x : Float) (z : ℤ) (n : ℕ) : Type 0 where
+  pub negative : Bool
+  pub size : ℕ
+  pub whole-is : z ≡ signed negative size
+  pub rounded : x ≡ round binary64 negative size n
 
 -- "the six numbers are whole"
 pub record IsWholeMachine (m : Machine Float) (whole : Machine ℤ) : Type 0 where
