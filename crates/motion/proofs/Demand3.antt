@@ -23,8 +23,8 @@ use Rattle.motion.specs.Tables.{rowsFrom, tableOf, tableResult, FillsPos
 use Rattle.motion.specs.Demand3.{Claim}
 use Rattle.motion.proofs.IntegerLaws.{not-below-zero, pos-below}
 use Rattle.motion.proofs.CountLaws.{one-count}
-use Rattle.motion.proofs.EntryLaws.{Entered, passes}
-use Rattle.motion.proofs.FillLaws.{length-rows, row-at}
+use Rattle.motion.proofs.EntryLaws.{entered-rule, passes}
+use Rattle.motion.proofs.FillLaws.{filled-places, filled-row}
 use Rattle.motion.proofs.KeptRules.{keeps}
 use Rattle.motion.proofs.SumsFromRest as sums
 use Rattle.motion.proofs.BoundRules as bounds
@@ -37,55 +37,22 @@ valuesOf (refused number) = record { snap = pos 0; jerk = pos 0; acceleration = 
 valuesOf (given v) = v
 
 module _ (X : ℤ) (V₀ A₀ J₀ S₀ : ℕ) (h : Accepted X V₀ A₀ J₀ S₀) where
-  abbrev a : ℕ
-  a = rule.a (distance X) V₀ A₀ J₀ S₀
-
-  abbrev b : ℕ
-  b = rule.b (distance X) V₀ A₀ J₀ S₀
-
-  abbrev c : ℕ
-  c = rule.c (distance X) V₀ A₀ J₀ S₀
-
-  abbrev e : ℕ
-  e = rule.e (distance X) V₀ A₀ J₀ S₀
-
   abbrev N : ℕ
   N = value.N X V₀ A₀ J₀ S₀
-
-  -- the rule's own plan
-  plan : Entered X V₀ A₀ J₀ S₀ a b c e (durations.D (distance X) a b c e) (durations.shortfall (distance X) a b c e)
-  plan =
-      let o = accepted-outcome X V₀ A₀ J₀ S₀ h in
-      record { facts = planned-facts (record { outcome-is = sym o }); outcome-is = o }
 
   -- what the one-sample entry gives
   sampled : {k : ℕ} {o : Result Values} → k ≤ N → (p : Samples X V₀ A₀ J₀ S₀ k o) → o ≡ given (valuesWith X V₀ A₀ J₀ S₀ k (p .count))
   unfolding sampleWith
-  sampled {k} l p = p .outcome-is ∙ passes plan 9 _ _ (le-ltb N k l)
+  sampled {k} l p = p .outcome-is ∙ passes (entered-rule h) 9 _ _ (le-ltb N k l)
 
   -- what the table holds
-  module _ (old new : List ℤ) (rows : Result ℕ) (room : N + 1 ≤ length old) (filled : FillsPositions X V₀ A₀ J₀ S₀ old rows new) where
-    abbrev row : ℕ → ℤ
-    row = value.position X V₀ A₀ J₀ S₀
-
-    table-is : new ≡ rowsFrom row 0 (N + 1) ++ drop (length (rowsFrom row 0 (N + 1))) old
-    unfolding FillsPositions tableResult tableOf
-    table-is =
-        filled .table-is
-        ∙ ap (λ (r : Result ℕ). tableOf r (rowsFrom row 0 (N + 1)) old)
-        (passes plan 8 (ltb (length old) (N + 1)) (N + 1) (le-ltb (length old) (N + 1) room))
-
-    places : N < length new
-    places =
-        omega
-        (arith, ap length table-is, length-append (rowsFrom row 0 (N + 1)) (drop (length (rowsFrom row 0 (N + 1))) old), length-rows row 0 (N + 1))
-
-    place : (k : ℕ) → k ≤ N → getD new k (pos 0) ≡ row k
-    place k l =
-        ap (λ (t : List ℤ). getD t k (pos 0)) table-is
-        ∙ List·getD-append (rowsFrom row 0 (N + 1)) _ (pos 0) k (omega (arith, length-rows row 0 (N + 1)))
-        ∙ row-at row (pos 0) 0 (N + 1) k (omega arith)
-        ∙ ap row (omega arith)
+  held :
+      (old new : List ℤ) (rows : Result ℕ)
+      → N + 1 ≤ length old
+      → FillsPositions X V₀ A₀ J₀ S₀ old rows new
+      → (N < length new) × ((k : ℕ) → k ≤ N → getD new k (pos 0) ≡ value.position X V₀ A₀ J₀ S₀ k)
+  unfolding FillsPositions
+  held old new rows room filled = (omega (arith, filled-places (entered-rule h) room tt filled), λ k l. filled-row (entered-rule h) room tt filled (pos 0) k (omega arith))
 
   module _ (sample : ℕ → Result Values) (promised : (k : ℕ) → k ≤ N → Samples X V₀ A₀ J₀ S₀ k (sample k)) where
     values : (k : ℕ) (l : k ≤ N) → valuesOf (sample k) ≡ valuesWith X V₀ A₀ J₀ S₀ k (promised k l .count)
@@ -123,18 +90,19 @@ module _ (X : ℤ) (V₀ A₀ J₀ S₀ : ℕ) (h : Accepted X V₀ A₀ J₀ S�
 pub demand-3 : Claim
 unfolding value.N samplesOf value.P value.snap value.jerk value.acceleration value.velocity value.position value.exactPositionTimesP
 demand-3 X V₀ A₀ J₀ S₀ h sample promised old new rows room filled =
-    let f = keeps (plan X V₀ A₀ J₀ S₀ h .facts) in
+    let f = keeps (entered-rule h .facts) in
     let at-snap = snap X V₀ A₀ J₀ S₀ h sample promised in
     let at-jerk = jerk X V₀ A₀ J₀ S₀ h sample promised in
     let at-acceleration = acceleration X V₀ A₀ J₀ S₀ h sample promised in
     let at-velocity = velocity X V₀ A₀ J₀ S₀ h sample promised in
     let at-position = position X V₀ A₀ J₀ S₀ h sample promised in
+    let table = held X V₀ A₀ J₀ S₀ h old new rows room filled in
     let last = le-refl (value.N X V₀ A₀ J₀ S₀) in
     record {
       at = λ k. valuesOf (sample k);
       answered = answered X V₀ A₀ J₀ S₀ h sample promised;
-      table-places = places X V₀ A₀ J₀ S₀ h old new rows room filled;
-      table-position = λ k l. place X V₀ A₀ J₀ S₀ h old new rows room filled k l ∙ sym (at-position k l);
+      table-places = table .0;
+      table-position = λ k l. table .1 k l ∙ sym (at-position k l);
       jerk-rest = at-jerk 0 zero-le ∙ sums.jerk-rest _ _ _ _ _ _;
       acceleration-rest = at-acceleration 0 zero-le ∙ sums.acceleration-rest _ _ _ _ _ _;
       velocity-rest = at-velocity 0 zero-le ∙ sums.velocity-rest _ _ _ _ _ _;

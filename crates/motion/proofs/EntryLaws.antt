@@ -14,19 +14,22 @@ use Rattle.planner.specs.Intervals as rule
 use Rattle.planner.specs.Durations as durations
 use Rattle.planner.specs.Facts.{PlanFacts}
 use Rattle.planner.specs.Answer.{outcome}
-use Rattle.planner.specs.Accepted.{IsPlanned}
+use Rattle.planner.specs.Accepted.{Accepted, IsPlanned}
 use Rattle.planner.specs.declared.Refusal.{Refusal}
 use Rattle.planner.specs.declared.Move.{Move}
 use Rattle.planner.specs.declared.Plan.{Plan}
 use Rattle.planner.specs.declared.PlanAnswer.{PlanAnswer}
 use Rattle.planner.specs.declared.PlanAnswer.the-variants.{Planned, Refused}
-use Rattle.planner.proofs.PlannedFacts.{answer-facts}
+use Rattle.planner.proofs.Acceptance.{accepted-outcome}
+use Rattle.planner.proofs.PlannedFacts.{planned-facts, answer-facts}
 use Rattle.motion.specs.Direction as direction
 use Rattle.motion.specs.Values as value
 use Rattle.motion.specs.Result.{refused, given, resultOf}
-use Rattle.motion.specs.Machine.{Machine}
+use Rattle.motion.specs.Machine.{Machine, machineAsRead}
+use Rattle.motion.specs.Doubled.{Doubled}
+use Rattle.motion.specs.Force.{forceRow}
 use Rattle.motion.specs.ForceTable.{rowNumbers, force}
-use Rattle.motion.specs.Inner.Planned.{WithinRange, plannedForce}
+use Rattle.motion.specs.Inner.Planned.{WithinRange, plannedNumbers, plannedForce}
 use Rattle.motion.proofs.KeptRules.{keeps}
 
 -- an answer that is a refusal holds no plan
@@ -59,6 +62,19 @@ module _ {X : ℤ} {V₀ A₀ J₀ S₀ : ℕ} where
       → resultOf (outcomeOf X V₀ A₀ J₀ S₀) own x ≡ refused n
   unfolding resultOf
   refused-first own x h q = ap (λ (o : Outcome). resultOf o own x) (sym (h .outcome-is) ∙ q)
+
+-- the rule's own plan
+module _ {X : ℤ} {V₀ A₀ J₀ S₀ : ℕ} (h : Accepted X V₀ A₀ J₀ S₀) where
+  abbrev W : ℕ
+  W = distance X
+
+  abbrev ruleIntervals : {T : Type 1} → ((a b c e : ℕ) → T) → T
+  ruleIntervals f = f (rule.a W V₀ A₀ J₀ S₀) (rule.b W V₀ A₀ J₀ S₀) (rule.c W V₀ A₀ J₀ S₀) (rule.e W V₀ A₀ J₀ S₀)
+
+  pub entered-rule : ruleIntervals (λ a b c e. Entered X V₀ A₀ J₀ S₀ a b c e (durations.D W a b c e) (durations.shortfall W a b c e))
+  entered-rule =
+      let o = accepted-outcome X V₀ A₀ J₀ S₀ h in
+      record { facts = planned-facts (record { outcome-is = sym o }); outcome-is = o }
 
 module _ {X : ℤ} {V₀ A₀ J₀ S₀ a b c e D short : ℕ} (h : Entered X V₀ A₀ J₀ S₀ a b c e D short) where
   abbrev rules : PlanFacts X V₀ A₀ J₀ S₀ a b c e D short
@@ -109,6 +125,10 @@ module _ {X : ℤ} {V₀ A₀ J₀ S₀ a b c e D short : ℕ} (h : Entered X V�
   unfolding value.position
   position-is k = by-rule (λ a b c e D. direction.position X a b c e D k)
 
+  pub numbers-are : plannedNumbers X a b c e D ≡ rowNumbers X V₀ A₀ J₀ S₀
+  unfolding rowNumbers value.N samplesOf value.snap value.jerk value.acceleration value.velocity
+  numbers-are = by-rule (λ a b c e D. plannedNumbers X a b c e D)
+
   pub force-is : (m : Machine Float) (k : ℕ) → plannedForce X a b c e D m k ≡ force X V₀ A₀ J₀ S₀ m k
-  unfolding force rowNumbers value.N samplesOf value.snap value.jerk value.acceleration value.velocity
-  force-is m k = by-rule (λ a b c e D. plannedForce X a b c e D m k)
+  unfolding force
+  force-is m k = ap (λ (w : ℕ → Doubled ℤ). forceRow (machineAsRead m) w k) numbers-are

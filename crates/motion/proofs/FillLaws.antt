@@ -7,7 +7,7 @@ use native.Mathlib.Omega.{arith}
 use borrow.Author.Tests.{lt-ltb, le-ltb}
 use lib.Dec.{ltb}
 use lib.IntN.{ℤ}
-use lib.ListN.{length, getD, drop}
+use lib.ListN.{length, getD, drop, length-append, List·getD-append}
 use Rattle.planner.specs.Outcome.{firstRefusal, Outcome, Check, check, Plans}
 use Rattle.planner.specs.Outcome as plan
 use Rattle.motion.specs.Result.{Result, refused, given}
@@ -25,13 +25,13 @@ unfolding firstRefusal
 all-pass [] x p = refl
 all-pass (check n test ∷ own) x p = rw (p .0) (all-pass own x (p .1))
 
-pub length-rows : {E : Type 0} (row : ℕ → E) (k n : ℕ) → length (rowsFrom row k n) ≡ n
+length-rows : {E : Type 0} (row : ℕ → E) (k n : ℕ) → length (rowsFrom row k n) ≡ n
 unfolding rowsFrom
 length-rows row k zero = refl
 length-rows row k (suc n) = ap suc (length-rows row (suc k) n)
 
 -- row k of a table
-pub row-at : {E : Type 0} (row : ℕ → E) (x : E) (j n k : ℕ) → k < n → getD (rowsFrom row j n) k x ≡ row (j + k)
+row-at : {E : Type 0} (row : ℕ → E) (x : E) (j n k : ℕ) → k < n → getD (rowsFrom row j n) k x ≡ row (j + k)
 unfolding rowsFrom
 row-at row x j zero k h = absurd (omega arith)
 row-at row x j (suc n) zero h = ap row (omega arith)
@@ -82,3 +82,29 @@ module _ {E : Type 0} {rows : ℕ} {row : ℕ → E} {old : List E} where
               w .table-is
               ∙ ap₂ (λ (r : Result ℕ) (rows : List E). tableOf r rows old) result (ap₂ (λ (f : ℕ → E) (n : ℕ). rowsFrom f 0 n) (fun-ext same) count);
         }
+
+    -- what the table holds where no check applies
+    module _
+        {a b c e D s : ℕ} {new : List E} {o : Result ℕ}
+        (h : Entered X V₀ A₀ J₀ S₀ a b c e D s)
+        (room : rows ≤ length old)
+        (pass : Pass own)
+        (filled : Fills X V₀ A₀ J₀ S₀ own rows row old o new)
+      where
+        filled-table : new ≡ rowsFrom row 0 rows ++ drop (length (rowsFrom row 0 rows)) old
+        unfolding tableResult tableOf
+        filled-table =
+            filled .table-is
+            ∙ ap (λ (r : Result ℕ). tableOf r (rowsFrom row 0 rows) old)
+            (own-checks h (check 8 (ltb (length old) rows) ∷ own) rows ∙ all-pass (check 8 (ltb (length old) rows) ∷ own) (given rows) (le-ltb (length old) rows room, pass))
+
+        pub filled-places : rows ≤ length new
+        filled-places =
+            omega (arith, ap length filled-table, length-append (rowsFrom row 0 rows) (drop (length (rowsFrom row 0 rows)) old), length-rows row 0 rows)
+
+        pub filled-row : (x : E) (k : ℕ) → k < rows → getD new k x ≡ row k
+        filled-row x k l =
+            ap (λ (t : List E). getD t k x) filled-table
+            ∙ List·getD-append (rowsFrom row 0 rows) _ x k (omega (arith, length-rows row 0 rows))
+            ∙ row-at row x 0 rows k l
+            ∙ ap row (omega arith)

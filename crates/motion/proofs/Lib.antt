@@ -41,3 +41,5 @@ pub mod SignedSums
 pub mod RoundedLaws
 pub mod WholeFloats
 pub mod Exactness
+pub mod ForceTheorems
+pub mod ExactExample

@@ -42,6 +42,13 @@ pub record IsWholeMachine (m : Machine Float) (whole : Machine ℤ) : Type 0 whe
   pub k12 : IsWhole (m .k12) (whole .k12)
   pub c : IsWhole (m .c) (whole .c)
 
+-- A row's doubled numbers as floats, and nothing is lost.
+pub record IsWholeRow (x : Doubled Float) (w : Doubled ℤ) : Type 0 where
+  pub d2 : IsWhole (x .d2) (w .d2)
+  pub j2 : IsWhole (x .j2) (w .j2)
+  pub a2 : IsWhole (x .a2) (w .a2)
+  pub v2 : IsWhole (x .v2) (w .v2)
+
 -- The doubled numbers of a row are within 2^53, so their casts lose nothing.
 pub record Castable (w : Doubled ℤ) : Type 0 where
   pub d2 : natAbs (w .d2) ≤ 2 ^ 53

@@ -12,6 +12,7 @@ pub mod Result
 pub mod Sampling
 pub mod Tables
 pub mod ForceTable
+pub mod ForceClaims
 pub mod Answer
 pub mod Demand3
 pub mod Inner
