@@ -1,4 +1,4 @@
--- The fifteen segments by their numbers: which have + and −, and which last q, r and s samples without snap. Assumes nothing.
+-- The segments by their numbers: which have + and −, and which last q, r and s samples without snap, and the rest. Assumes nothing.
 use mathlib.Core.List.{List, [], _∷_}
 use mathlib.Core.Logic.{_⊎_, inl, inr, ⊎-elim}
 use mathlib.Core.Path.{_≡_, refl, sym, subst}
@@ -25,28 +25,30 @@ at-key P k (l ∷ ks) i h a = ⊎-elim (λ q. subst P (sym q) (a .0)) (λ m. at-
 
 pub others :
     (i : ℕ)
-    → i < 15
+    → i < 16
     → (Among 0 (6 ∷ 10 ∷ 12 ∷ []) i → ⊥)
     → (Among 2 (4 ∷ 8 ∷ 14 ∷ []) i → ⊥)
     → (Among 3 (11 ∷ []) i → ⊥)
     → (i ≡ 7 → ⊥)
+    → (i ≡ 15 → ⊥)
     → Among 1 (5 ∷ 9 ∷ 13 ∷ []) i
-others zero l a b c d = absurd (a (inl refl))
-others (suc zero) l a b c d = inl refl
-others (suc (suc zero)) l a b c d = absurd (b (inl refl))
-others (suc (suc (suc zero))) l a b c d = absurd (c (inl refl))
-others (suc (suc (suc (suc zero)))) l a b c d = absurd (b (inr (inl refl)))
-others (suc (suc (suc (suc (suc zero))))) l a b c d = inr (inl refl)
-others (suc (suc (suc (suc (suc (suc zero)))))) l a b c d = absurd (a (inr (inl refl)))
-others (suc (suc (suc (suc (suc (suc (suc zero))))))) l a b c d = absurd (d refl)
-others (suc (suc (suc (suc (suc (suc (suc (suc zero)))))))) l a b c d = absurd (b (inr (inr (inl refl))))
-others (suc (suc (suc (suc (suc (suc (suc (suc (suc zero))))))))) l a b c d = inr (inr (inl refl))
-others (suc (suc (suc (suc (suc (suc (suc (suc (suc (suc zero)))))))))) l a b c d = absurd (a (inr (inr (inl refl))))
-others (suc (suc (suc (suc (suc (suc (suc (suc (suc (suc (suc zero))))))))))) l a b c d = absurd (c (inr refl))
-others (suc (suc (suc (suc (suc (suc (suc (suc (suc (suc (suc (suc zero)))))))))))) l a b c d = absurd (a (inr (inr (inr refl))))
-others (suc (suc (suc (suc (suc (suc (suc (suc (suc (suc (suc (suc (suc zero))))))))))))) l a b c d = inr (inr (inr refl))
-others (suc (suc (suc (suc (suc (suc (suc (suc (suc (suc (suc (suc (suc (suc zero)))))))))))))) l a b c d = absurd (b (inr (inr (inr refl))))
-others (suc (suc (suc (suc (suc (suc (suc (suc (suc (suc (suc (suc (suc (suc (suc i))))))))))))))) l a b c d = absurd (omega arith)
+others zero l a b c d f = absurd (a (inl refl))
+others (suc zero) l a b c d f = inl refl
+others (suc (suc zero)) l a b c d f = absurd (b (inl refl))
+others (suc (suc (suc zero))) l a b c d f = absurd (c (inl refl))
+others (suc (suc (suc (suc zero)))) l a b c d f = absurd (b (inr (inl refl)))
+others (suc (suc (suc (suc (suc zero))))) l a b c d f = inr (inl refl)
+others (suc (suc (suc (suc (suc (suc zero)))))) l a b c d f = absurd (a (inr (inl refl)))
+others (suc (suc (suc (suc (suc (suc (suc zero))))))) l a b c d f = absurd (d refl)
+others (suc (suc (suc (suc (suc (suc (suc (suc zero)))))))) l a b c d f = absurd (b (inr (inr (inl refl))))
+others (suc (suc (suc (suc (suc (suc (suc (suc (suc zero))))))))) l a b c d f = inr (inr (inl refl))
+others (suc (suc (suc (suc (suc (suc (suc (suc (suc (suc zero)))))))))) l a b c d f = absurd (a (inr (inr (inl refl))))
+others (suc (suc (suc (suc (suc (suc (suc (suc (suc (suc (suc zero))))))))))) l a b c d f = absurd (c (inr refl))
+others (suc (suc (suc (suc (suc (suc (suc (suc (suc (suc (suc (suc zero)))))))))))) l a b c d f = absurd (a (inr (inr (inr refl))))
+others (suc (suc (suc (suc (suc (suc (suc (suc (suc (suc (suc (suc (suc zero))))))))))))) l a b c d f = inr (inr (inr refl))
+others (suc (suc (suc (suc (suc (suc (suc (suc (suc (suc (suc (suc (suc (suc zero)))))))))))))) l a b c d f = absurd (b (inr (inr (inr refl))))
+others (suc (suc (suc (suc (suc (suc (suc (suc (suc (suc (suc (suc (suc (suc (suc zero))))))))))))))) l a b c d f = absurd (f refl)
+others (suc (suc (suc (suc (suc (suc (suc (suc (suc (suc (suc (suc (suc (suc (suc (suc i)))))))))))))))) l a b c d f = absurd (omega arith)
 
 module _ (d : Durations) (levels : Levels) where
   abbrev At : (samples : ℕ) (snap : ℤ) → ℕ → Type 0
@@ -77,3 +79,7 @@ module _ (d : Durations) (levels : Levels) where
   pub lasting-s : (i : ℕ) → Among 7 [] i → At (d .s) (pos 0) i
   unfolding segments level snapsOf
   lasting-s i h = at-key (At (d .s) (pos 0)) 7 [] i h (record { splits = refl }, tt)
+
+  pub lasting-rest : (i : ℕ) → Among 15 [] i → At (d .rest) (pos 0) i
+  unfolding segments level snapsOf
+  lasting-rest i h = at-key (At (d .rest) (pos 0)) 15 [] i h (record { splits = refl }, tt)

@@ -6,10 +6,10 @@ use native.Mathlib.Omega.{arith}
 use lib.IntN.{ℤ, pos}
 use lib.ListN.{length, length-append, drop, replicate, length-replicate}
 use Rattle.planner.specs.Durations.{p, q, r, s, N}
-use Rattle.profile.specs.Segments.{Segment, segments}
+use Rattle.profile.specs.Segments.{none, Segment, segment, segments}
 use Rattle.profile.specs.Profile as profile
 use Rattle.profile.specs.Widths.{span}
-use Rattle.profile.proofs.Lookup.{samples, snap-ends}
+use Rattle.profile.proofs.Lookup.{samples, samples-append, snap-rested}
 use Rattle.profile.proofs.SwitchedLaws.{samples-switched}
 use Rattle.profile.proofs.FourthOrder.{fifteen}
 use Rattle.motion.specs.Direction as direction
@@ -20,42 +20,35 @@ use Rattle.motion.specs.declared.segments.Segment as code
 use Rattle.motion.specs.declared.snap.Levels.{Levels}
 use Rattle.motion.specs.Inner.Runs.{Writer, CanRun, Ran}
 use Rattle.motion.specs.Inner.SnapLevels.{AreLevels}
-use Rattle.motion.specs.Inner.SegmentSnaps.{snapsOf, IsDurations, fifteenOf, NextSegment}
+use Rattle.motion.specs.Inner.SegmentSnaps.{withRest}
 use Rattle.motion.specs.Inner.Planned.{WithinRange, RowsIn}
 use Rattle.motion.proofs.OrderedLaws.{spread}
-use Rattle.motion.proofs.DirectionLaws.{along-zero}
-use Rattle.motion.proofs.ListedLaws.{Listed, directedSnaps, length-snaps, listed, listed-joined, listed-equal}
+use Rattle.motion.proofs.ListedLaws.{Listed, directedSnaps, length-snaps, listed}
 use Rattle.motion.proofs.RowLaws.{Carries, steps-fit, stored-rows}
 
 module _ (X : ℤ) (a b c e D : ℕ) (h : WithinRange a b c e D) where
-  abbrev all : List Segment
-  all = segments (p a) (q a b) (r a b c) (s a b c e)
+  abbrev fifteenSegments : List Segment
+  fifteenSegments = segments (p a) (q a b) (r a b c) (s a b c e)
 
-  -- the snaps of the plan, and then so many samples without snap
+  -- and a segment without snap for the rows after them
+  abbrev all : (more : ℕ) → List Segment
+  all more = withRest (p a) (q a b) (r a b c) (s a b c e) more
+
   abbrev pub run : (more : ℕ) → List ℤ
-  run more = directedSnaps X D all ++ replicate more (pos 0)
+  run more = directedSnaps X D (all more)
 
   abbrev snap : ℕ → ℤ
   snap = direction.snap X a b c e D
 
-  all-samples : samples all ≡ N a b c e
-  unfolding span
-  all-samples =
-      ap samples (fifteen a b c e)
-      ∙ samples-switched a (e ∷ c ∷ b ∷ []) (spread (h .ordered))
-
   run-length : (more : ℕ) → length (run more) ≡ N a b c e + more
+  unfolding span samples
   run-length more =
-      length-append (directedSnaps X D all) (replicate more (pos 0))
-      ∙ ap₂ _+_ (length-snaps X D all ∙ all-samples) (length-replicate more (pos 0))
+      let plan : samples fifteenSegments ≡ N a b c e = ap samples (fifteen a b c e) ∙ samples-switched a (e ∷ c ∷ b ∷ []) (spread (h .ordered)) in
+      omega (arith, plan, length-snaps X D (all more), samples-append fifteenSegments (segment more none ∷ []))
 
   run-listed : (more : ℕ) → Listed (run more) snap 0
   unfolding direction.snap profile.snap
-  run-listed more =
-      listed-joined (directedSnaps X D all) (replicate more (pos 0)) snap 0
-      (listed X D all snap 0 (λ i. ap snap (omega arith)))
-      (listed-equal more (pos 0) snap (0 + length (directedSnaps X D all))
-      (λ i l. ap (along X) (snap-ends all D (0 + length (directedSnaps X D all) + i) (omega (arith, length-snaps X D all))) ∙ along-zero X))
+  run-listed more = listed X D (all more) snap 0 (λ i. ap snap (omega arith) ∙ ap (along X) (sym (snap-rested fifteenSegments more D i)))
 
   -- the rows of a table that is written along the plan
   module _ {S E : Type 0} {w : Writer S E} {at : ℕ → S} (carries : Carries w snap at) (more : ℕ) where

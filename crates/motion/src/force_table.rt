@@ -27,16 +27,15 @@ fn fill_forces(table: &mut [f64], displacement: i64, plan: Plan, machine: Machin
     ensures { λ r. ⌜ RowsIn (N (plan .a) (plan .b) (plan .c) (plan .e) + 2) (forceRow (machineOf machine) (plannedNumbers displacement (plan .a) (plan .b) (plan .c) (plan .e) (plan .snap))) (now (table .entry)) (now (table .exit)) ⌝ }
 {
     let levels = levels_of(displacement, plan.snap);
-    let durations = durations_of(plan);
+    let durations = durations_of(plan, 2);
     let feedforward = feedforward_of(machine);
     let mut current = first_row();
     let mut i = 0u64;
-    while i < 15 {
+    while i < 16 {
         let segment = segment_at(durations, levels, i);
         current = store_rows(table, segment.samples, segment.snap, feedforward, current);
         i += 1;
     }
-    store_rows(table, 2, 0, feedforward, current);
 }
 
 // The rows of a plan where the table has room for them and the machine is in range, else refusal 8 or 10.

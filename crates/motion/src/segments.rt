@@ -5,23 +5,25 @@ ghost use Prim.Native.Nat.{_<_};
 ghost use Rattle.planner.specs.Facts.{Ordered};
 ghost use Rattle.motion.specs.Inner.SegmentSnaps.{IsDurations, NextSegment};
 
-// The lengths of the segments: the paper's p, q, r and s.
+// The lengths of the segments: the paper's p, q, r and s, and the rows of a table after the last segment.
 pub(crate) struct Durations {
     pub p: u64,
     pub q: u64,
     pub r: u64,
     pub s: u64,
+    pub rest: u64,
 }
 
-pub(crate) fn durations_of(plan: Plan) -> Durations
+pub(crate) fn durations_of(plan: Plan, rest: u64) -> Durations
     requires { ⌜ Ordered (plan .a) (plan .b) (plan .c) (plan .e) ⌝ }
-    ensures { λ d. ⌜ IsDurations (plan .a) (plan .b) (plan .c) (plan .e) d ⌝ }
+    ensures { λ d. ⌜ IsDurations (plan .a) (plan .b) (plan .c) (plan .e) rest d ⌝ }
 {
     Durations {
         p: plan.a,
         q: plan.b - plan.a,
         r: plan.c - plan.a - plan.b,
         s: plan.e - plan.a - plan.b - plan.c,
+        rest,
     }
 }
 
@@ -31,9 +33,10 @@ pub(crate) struct Segment {
     pub snap: i64,
 }
 
-// Segment i, from 0 to 14. They last p q p r p q p s p q p r p q p samples, with the signs + 0 − 0 − 0 + 0 − 0 + 0 + 0 −.
+// Segment i, from 0 to 14. They last p q p r p q p s p q p r p q p samples, with the signs + 0 − 0 − 0 + 0 − 0 + 0 + 0 −. Segment 15 is
+// the rest, so that a table is filled by one loop with one call.
 pub(crate) fn segment_at(d: Durations, levels: Levels, i: u64) -> Segment
-    requires { ⌜ i < 15 ⌝ }
+    requires { ⌜ i < 16 ⌝ }
     ensures { λ g. ⌜ NextSegment d levels i g ⌝ }
 {
     match i {
@@ -51,6 +54,10 @@ pub(crate) fn segment_at(d: Durations, levels: Levels, i: u64) -> Segment
         },
         7 => Segment {
             samples: d.s,
+            snap: 0,
+        },
+        15 => Segment {
+            samples: d.rest,
             snap: 0,
         },
         _ => Segment {

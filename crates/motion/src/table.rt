@@ -22,15 +22,14 @@ fn fill_table(table: &mut [i64], displacement: i64, plan: Plan)
     ensures { λ r. ⌜ RowsIn (N (plan .a) (plan .b) (plan .c) (plan .e) + 1) (position displacement (plan .a) (plan .b) (plan .c) (plan .e) (plan .snap)) (now (table .entry)) (now (table .exit)) ⌝ }
 {
     let levels = levels_of(displacement, plan.snap);
-    let durations = durations_of(plan);
+    let durations = durations_of(plan, 1);
     let mut state = at_rest();
     let mut i = 0u64;
-    while i < 15 {
+    while i < 16 {
         let segment = segment_at(durations, levels, i);
         state = store_segment(table, segment.samples, segment.snap, state);
         i += 1;
     }
-    store_segment(table, 1, 0, state);
 }
 
 // The rows of a plan where the table has room for them, else refusal 8.

@@ -9,7 +9,7 @@ use native.Mathlib.Omega.{arith}
 use lib.Dec.{ltb}
 use lib.IntN.{ℤ, pos}
 use borrow.Author.Tests.{lt-ltb, le-ltb, ltb-false}
-use Rattle.profile.specs.Segments.{Sign, Segment, segment, signed, snapIn}
+use Rattle.profile.specs.Segments.{Sign, none, Segment, segment, level, signed, snapIn}
 use Rattle.profile.specs.Widths.{withOppositeSigns}
 
 -- the samples of all segments
@@ -60,3 +60,14 @@ snap-behind (segment n g ∷ xs) ys D k h =
 pub snap-ends : (xs : List Segment) (D k : ℕ) → samples xs ≤ k → snapIn xs D k ≡ pos 0
 unfolding snapIn
 snap-ends xs D k h = ap (λ (l : List Segment). snapIn l D k) (sym (append-nil xs)) ∙ snap-behind xs [] D k h
+
+-- a last segment without snap changes nothing
+pub snap-rested : (xs : List Segment) (n D k : ℕ) → snapIn (xs ++ (segment n none ∷ [])) D k ≡ snapIn xs D k
+unfolding snapIn signed level
+snap-rested [] n D k = either (ltb k n)
+  where
+    either : (t : Bool) → cond t (pos 0) (pos 0) ≡ pos 0
+    either true = refl
+    either false = refl
+snap-rested (segment m g ∷ xs) n D k =
+    ap (λ (y : ℤ). cond (ltb k m) (signed g D) y) (snap-rested xs n D (k - m))

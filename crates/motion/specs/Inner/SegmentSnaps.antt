@@ -5,7 +5,7 @@ use Prim.Native.Nat.{ℕ, _+_}
 use lib.IntN.{ℤ}
 use lib.ListN.{drop, replicate}
 use Rattle.planner.specs.Durations as durations
-use Rattle.profile.specs.Segments.{level, segment, segments}
+use Rattle.profile.specs.Segments.{none, level, segment, segments}
 use Rattle.profile.specs.Segments as profile
 use Rattle.motion.specs.declared.segments.Durations.{Durations}
 use Rattle.motion.specs.declared.segments.Segment.{Segment}
@@ -16,17 +16,22 @@ unfoldable pub snapsOf : List profile.Segment → (u v : ℤ) → List ℤ
 snapsOf [] u v = []
 snapsOf (segment n sign ∷ rest) u v = replicate n (level sign u v) ++ snapsOf rest u v
 
-pub record IsDurations (a b c e : ℕ) (d : Durations) : Type 0 where
+pub record IsDurations (a b c e rest : ℕ) (d : Durations) : Type 0 where
   pub p-is : d .p ≡ durations.p a
   pub q-is : d .q ≡ durations.q a b
   pub r-is : d .r ≡ durations.r a b c
   pub s-is : d .s ≡ durations.s a b c e
+  pub rest-is : d .rest ≡ rest
 
-abbrev pub fifteenOf : Durations → List profile.Segment
-fifteenOf d = segments (d .p) (d .q) (d .r) (d .s)
+-- The paper's fifteen segments, and one without snap for the rows after them.
+abbrev pub withRest : (p q r s rest : ℕ) → List profile.Segment
+withRest p q r s rest = segments p q r s ++ (segment rest none ∷ [])
+
+abbrev pub segmentsOf : Durations → List profile.Segment
+segmentsOf d = withRest (d .p) (d .q) (d .r) (d .s) (d .rest)
 
 -- The snaps from segment i on are those of g and of the segments after it.
 pub record NextSegment (d : Durations) (levels : Levels) (i : ℕ) (g : Segment) : Type 0 where
   pub splits :
-      snapsOf (drop i (fifteenOf d)) (levels .up) (levels .down)
-      ≡ replicate (g .samples) (g .snap) ++ snapsOf (drop (i + 1) (fifteenOf d)) (levels .up) (levels .down)
+      snapsOf (drop i (segmentsOf d)) (levels .up) (levels .down)
+      ≡ replicate (g .samples) (g .snap) ++ snapsOf (drop (i + 1) (segmentsOf d)) (levels .up) (levels .down)

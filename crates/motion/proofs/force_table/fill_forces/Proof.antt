@@ -9,17 +9,17 @@ use Rattle.motion.specs.Inner.Runs.{Ran}
 use Rattle.motion.specs.Inner.Rows.{forceWriter}
 use Rattle.motion.proofs.StateLaws.{snap-small}
 use Rattle.motion.proofs.RunLaws.{ran-length}
-use Rattle.motion.proofs.SegmentRuns.{snapsFrom, SegmentsLeft, first-segment, plan-ran, segment-can-run, next-segment, end-can-run, all-ran}
+use Rattle.motion.proofs.SegmentRuns.{snapsFrom, SegmentsLeft, first-segment, plan-ran, segment-can-run, next-segment, all-ran}
 use Rattle.motion.proofs.ForceLaws.{forces-can-run, forces-in}
 use Rattle.motion.proofs.force_table.fill_forces.Statement.{statement}
 use Rattle.motion.proofs.force_table.fill_forces.Tie as tie
 
 abbrev Inv-loop : tie.InvT-loop
 Inv-loop table₀ displacement levels durations feedforward current₀ i₀ table current i =
-    SegmentsLeft (forceWriter feedforward) durations levels 2 current₀ table₀ i current table
+    SegmentsLeft (forceWriter feedforward) durations levels current₀ table₀ i current table
 
 abbrev μ-loop : tie.MeasureT-loop
-μ-loop table₀ displacement levels durations feedforward current₀ i₀ table current i = 15 - i
+μ-loop table₀ displacement levels durations feedforward current₀ i₀ table current i = 16 - i
 
 levels-of-requires : tie.Need-levels-of-requires Inv-loop μ-loop
 levels-of-requires c κs = let d = c .before in snap-small (d .args .displacement) _ _ _ _ _ (d .pre .0)
@@ -44,7 +44,7 @@ loop-holds : tie.Need-loop-holds Inv-loop μ-loop
 loop-holds c =
     let l = c .before .before in
     let d = l .before .before .before in
-    first-segment 2 (d .pre .0) (l .durations-of .ensures) (levels (l .before))
+    first-segment (d .pre .0) (l .durations-of .ensures) (levels (l .before))
     (rw (c .first-row .ensures) (forces-can-run (d .args .displacement) _ _ _ _ _ (d .pre .0) (c .before .feedforward-of .ensures) (d .pre .1)))
 
 segment-at-requires : tie.Need-segment-at-requires Inv-loop μ-loop
@@ -70,44 +70,24 @@ loop-again c =
     (toZ-ofZ {w = w64} {z = g .result .snap} (record { sfits = d .struct-told .given .1 .0 .1 }))
     (d .before .before .before .loop-test .taken) (c .before .before .store-rows .ensures)
 
-store-rows-requires-2 : tie.Need-store-rows-requires-2 Inv-loop μ-loop
-store-rows-requires-2 c κs = end-can-run (c .before .before .loop .inv) (c .before .loop-test .left)
-
 ran :
-    (c : tie.After-slice-known3 Inv-loop μ-loop)
-    → let d = c .before .before .before .before .before .before in
+    (c : tie.After-loop Inv-loop μ-loop)
+    → let d = c .before .before in
     let l = d .before .before in
-    Ran (forceWriter (d .before .feedforward-of .result)) (snapsFrom (l .durations-of .result) (l .before .levels-of .result) 2 0) (d .first-row .result)
-    (l .before .before .before .args .table .now) (c .before .before .store-rows2 .last .0) (c .before .before .store-rows2 .result)
-ran c = let l = c .before .before .before .before in all-ran (l .before .loop .inv) (l .loop-test .left) (c .before .before .store-rows2 .ensures)
+    Ran (forceWriter (d .before .feedforward-of .result)) (snapsFrom (l .durations-of .result) (l .before .levels-of .result) 0) (d .first-row .result)
+    (l .before .before .before .args .table .now) (c .before .loop .table) (c .before .loop .current)
+ran c = all-ran (c .before .loop .inv) (c .loop-test .left)
 
 same-length : tie.Need-same-length Inv-loop μ-loop
 same-length c = ran-length (ran c)
 
 returns : tie.Need-returns Inv-loop μ-loop
 returns c =
-    let r = c .before .before .before .before .before .before in
+    let r = c .before .before in
     let l = r .before .before in
     let d = l .before .before .before in
-    let whole = plan-ran 2 (d .pre .0) (l .durations-of .ensures) (levels (l .before)) (ran c) in
+    let whole = plan-ran (d .pre .0) (l .durations-of .ensures) (levels (l .before)) (ran c) in
     forces-in (d .args .displacement) _ _ _ _ _ (d .pre .0) (r .before .feedforward-of .ensures) (d .pre .1) (rw (r .first-row .ensures) at whole)
 
 pub fill-forces-spec : {M : Type 1} → statement M
-fill-forces-spec =
-    tie.close
-    (tie.spec
-    Inv-loop
-    μ-loop
-    levels-of-requires
-    durations-of-requires
-    feedforward-of-requires
-    first-row-requires
-    loop-holds
-    segment-at-requires
-    store-rows-requires
-    add-i
-    loop-less
-    loop-again
-    store-rows-requires-2
-    same-length
-    returns)
+fill-forces-spec = tie.close (tie.spec Inv-loop μ-loop levels-of-requires durations-of-requires feedforward-of-requires first-row-requires loop-holds segment-at-requires store-rows-requires add-i loop-less loop-again same-length returns)

@@ -3,9 +3,6 @@ use borrow.Author.Needs.{needs}
 use Rattle.motion.proofs.segments.durations_of.Statement.{statement}
 use Rattle.motion.proofs.segments.durations_of.Tie as tie
 
-sub-t2 : tie.Need-sub-t2
-sub-t2 c = search needs
-
 sub-t3 : tie.Need-sub-t3
 sub-t3 c = search needs
 
@@ -21,8 +18,11 @@ sub-t6 c = search needs
 sub-t7 : tie.Need-sub-t7
 sub-t7 c = search needs
 
+sub-t8 : tie.Need-sub-t8
+sub-t8 c = search needs
+
 returns : tie.Need-returns
 returns c = search needs
 
 pub durations-of-spec : {M : Type 1} → statement M
-durations-of-spec = tie.close (tie.spec sub-t2 sub-t3 sub-t4 sub-t5 sub-t6 sub-t7 returns)
+durations-of-spec = tie.close (tie.spec sub-t3 sub-t4 sub-t5 sub-t6 sub-t7 sub-t8 returns)

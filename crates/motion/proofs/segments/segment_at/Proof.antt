@@ -1,11 +1,11 @@
--- `segment_at` meets its contract: each arm has the numbers of its segments, and the last has those that are left of fifteen.
+-- `segment_at` meets its contract: each arm has the numbers of its segments, and the last has those that are left of sixteen.
 -- Assumes nothing.
 use mathlib.Core.Path.{_≡_, sym, subst}
 use mir.Syntax.{w64}
 use mir.Val.{toZ, ofZ}
 use mir.Facts.{toZ-ofZ}
 use Rattle.motion.specs.Inner.SegmentSnaps.{NextSegment}
-use Rattle.motion.proofs.SegmentLaws.{others, with-plus, with-minus, lasting-q, lasting-r, lasting-s}
+use Rattle.motion.proofs.SegmentLaws.{others, with-plus, with-minus, lasting-q, lasting-r, lasting-s, lasting-rest}
 use Rattle.motion.proofs.segments.segment_at.Statement.{statement}
 use Rattle.motion.proofs.segments.segment_at.Tie as tie
 
@@ -33,9 +33,12 @@ returns-4 : tie.Need-returns-4
 returns-4 c = lasting-s _ _ _ (c .match .keys4)
 
 returns-5 : tie.Need-returns-5
-returns-5 c =
+returns-5 c = lasting-rest _ _ _ (c .match .keys5)
+
+returns-6 : tie.Need-returns-6
+returns-6 c =
     let n = c .match .rest in
-    lasting-q _ _ _ (others _ (c .before .pre) (n .0 .0 .0 .1) (n .0 .0 .1) (n .0 .1) (n .1))
+    lasting-q _ _ _ (others _ (c .before .pre) (n .0 .0 .0 .0 .1) (n .0 .0 .0 .1) (n .0 .0 .1) (n .0 .1) (n .1))
 
 pub segment-at-spec : {M : Type 1} → statement M
-segment-at-spec = tie.close (tie.spec returns returns-2 returns-3 returns-4 returns-5)
+segment-at-spec = tie.close (tie.spec returns returns-2 returns-3 returns-4 returns-5 returns-6)

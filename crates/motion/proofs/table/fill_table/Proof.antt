@@ -8,16 +8,16 @@ use Rattle.motion.specs.Inner.SnapLevels.{AreLevels}
 use Rattle.motion.specs.Inner.Runs.{positionWriter, Ran}
 use Rattle.motion.proofs.StateLaws.{snap-small}
 use Rattle.motion.proofs.RunLaws.{ran-length}
-use Rattle.motion.proofs.SegmentRuns.{snapsFrom, SegmentsLeft, first-segment, plan-ran, segment-can-run, next-segment, end-can-run, all-ran}
+use Rattle.motion.proofs.SegmentRuns.{snapsFrom, SegmentsLeft, first-segment, plan-ran, segment-can-run, next-segment, all-ran}
 use Rattle.motion.proofs.PositionLaws.{positions-can-run, positions-in}
 use Rattle.motion.proofs.table.fill_table.Statement.{statement}
 use Rattle.motion.proofs.table.fill_table.Tie as tie
 
 abbrev Inv-loop : tie.InvT-loop
-Inv-loop table₀ displacement levels durations state₀ i₀ table state i = SegmentsLeft positionWriter durations levels 1 state₀ table₀ i state table
+Inv-loop table₀ displacement levels durations state₀ i₀ table state i = SegmentsLeft positionWriter durations levels state₀ table₀ i state table
 
 abbrev μ-loop : tie.MeasureT-loop
-μ-loop table₀ displacement levels durations state₀ i₀ table state i = 15 - i
+μ-loop table₀ displacement levels durations state₀ i₀ table state i = 16 - i
 
 levels-of-requires : tie.Need-levels-of-requires Inv-loop μ-loop
 levels-of-requires c κs = snap-small (c .args .displacement) _ _ _ _ _ (c .pre .0)
@@ -36,7 +36,7 @@ levels c =
 loop-holds : tie.Need-loop-holds Inv-loop μ-loop
 loop-holds c =
     let d = c .before .before .before in
-    first-segment 1 (d .pre .0) (c .before .durations-of .ensures) (levels (c .before .before))
+    first-segment (d .pre .0) (c .before .durations-of .ensures) (levels (c .before .before))
     (rw (c .at-rest .ensures) (positions-can-run (d .args .displacement) _ _ _ _ _ (d .pre .0) (d .pre .1)))
 
 segment-at-requires : tie.Need-segment-at-requires Inv-loop μ-loop
@@ -62,41 +62,22 @@ loop-again c =
     (toZ-ofZ {w = w64} {z = g .result .snap} (record { sfits = d .struct-told .given .1 .0 .1 }))
     (d .before .before .before .loop-test .taken) (c .before .store-segment .ensures)
 
-store-segment-requires-2 : tie.Need-store-segment-requires-2 Inv-loop μ-loop
-store-segment-requires-2 c κs = end-can-run (c .before .before .loop .inv) (c .before .loop-test .left)
-
 ran :
-    (c : tie.After-table2 Inv-loop μ-loop)
-    → let d = c .before .before .before .before .before in
-    Ran positionWriter (snapsFrom (d .before .durations-of .result) (d .before .before .levels-of .result) 1 0) (d .at-rest .result)
-    (d .before .before .before .args .table .now) (c .before .store-segment2 .last .0) (c .before .store-segment2 .result)
-ran c = let l = c .before .before .before in all-ran (l .before .loop .inv) (l .loop-test .left) (c .before .store-segment2 .ensures)
+    (c : tie.After-loop Inv-loop μ-loop)
+    → let d = c .before .before in
+    Ran positionWriter (snapsFrom (d .before .durations-of .result) (d .before .before .levels-of .result) 0) (d .at-rest .result)
+    (d .before .before .before .args .table .now) (c .before .loop .table) (c .before .loop .state)
+ran c = all-ran (c .before .loop .inv) (c .loop-test .left)
 
 same-length : tie.Need-same-length Inv-loop μ-loop
 same-length c = ran-length (ran c)
 
 returns : tie.Need-returns Inv-loop μ-loop
 returns c =
-    let r = c .before .before .before .before .before in
+    let r = c .before .before in
     let d = r .before .before .before in
-    let whole = plan-ran 1 (d .pre .0) (r .before .durations-of .ensures) (levels (r .before .before)) (ran c) in
+    let whole = plan-ran (d .pre .0) (r .before .durations-of .ensures) (levels (r .before .before)) (ran c) in
     positions-in (d .args .displacement) _ _ _ _ _ (d .pre .0) (d .pre .1) (rw (r .at-rest .ensures) at whole)
 
 pub fill-table-spec : {M : Type 1} → statement M
-fill-table-spec =
-    tie.close
-    (tie.spec
-    Inv-loop
-    μ-loop
-    levels-of-requires
-    durations-of-requires
-    at-rest-requires
-    loop-holds
-    segment-at-requires
-    store-segment-requires
-    add-i
-    loop-less
-    loop-again
-    store-segment-requires-2
-    same-length
-    returns)
+fill-table-spec = tie.close (tie.spec Inv-loop μ-loop levels-of-requires durations-of-requires at-rest-requires loop-holds segment-at-requires store-segment-requires add-i loop-less loop-again same-length returns)
