@@ -2,7 +2,7 @@
 // byte 10 after.
 use planner::Move;
 use vector_text::read_field;
-use vector_text::signed;
+use vector_text::read_move;
 
 // Kind s asks for the samples n to n+m-1. Kind p asks for the positions and kind r for the reference rows in a table of n places, of
 // which those from m on are written out.
@@ -16,18 +16,8 @@ pub(crate) struct Request {
 pub(crate) fn read_request(line: &[u8; 149]) -> Request {
     Request {
         kind: line[0],
-        requested: read_move(line),
+        requested: read_move(line, 2),
         n: read_field(line, 107).size,
         m: read_field(line, 128).size,
-    }
-}
-
-fn read_move(line: &[u8; 149]) -> Move {
-    Move {
-        displacement: signed(read_field(line, 2)),
-        velocity: read_field(line, 23).size,
-        acceleration: read_field(line, 44).size,
-        jerk: read_field(line, 65).size,
-        snap: read_field(line, 86).size,
     }
 }

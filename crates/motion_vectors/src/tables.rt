@@ -5,12 +5,11 @@ use crate::request::Request;
 use crate::tables::sum::sum_of;
 use motion::TableAnswer;
 use planner::Move;
-use vector_text::write_number;
-use vector_text::write_refused;
+use vector_text::MOST_PLACES;
+use vector_text::places_of;
 use vector_text::write_signed;
-ghost use Prim.Native.Nat.{_≤_, _<_, _^_};
-
-const MOST_PLACES: usize = 4200;
+use vector_text::write_table_answer;
+ghost use Prim.Native.Nat.{_<_, _^_};
 
 pub(crate) fn write_table(request: Request) {
     let mut table = [0i64; MOST_PLACES];
@@ -20,21 +19,10 @@ pub(crate) fn write_table(request: Request) {
     io::write_all(1, b"\n");
 }
 
-// How many places are lent.
-fn places_of(n: u64) -> usize
-    ensures { λ r. ⌜ r ≤ 4200 ⌝ }
-{
-    if MOST_PLACES < n as usize {
-        return MOST_PLACES;
-    }
-    n as usize
-}
-
 fn write_answer(request: Request, table: &mut [i64]) {
     mark_places(table);
-    write_table_answer(fill(request.kind, request.requested, table));
-    io::write_all(1, b" sum");
-    write_number(sum_of(table));
+    let answer = fill(request.kind, request.requested, table);
+    write_table_answer(answer, sum_of(table));
     write_places(table, request.m as usize);
 }
 
@@ -58,16 +46,6 @@ fn fill(kind: u8, requested: Move, table: &mut [i64]) -> TableAnswer {
         return motion::fill_positions(requested, table);
     }
     motion::fill_reference(requested, table)
-}
-
-fn write_table_answer(answer: TableAnswer) {
-    match answer {
-        TableAnswer::Refused(refusal) => write_refused(motion::refusal_number(refusal)),
-        TableAnswer::Filled(rows) => {
-            io::write_all(1, b"rows");
-            write_number(rows);
-        }
-    }
 }
 
 // At most 40 places from `from` on, and none past the end.

@@ -2,11 +2,9 @@
 // stored answers are those of the reference, which was written from the paper alone.
 //
 // A line is five numbers of 20 bytes, X V A J S, right-aligned, with a space between and byte 10 after.
-use planner::Move;
 use planner::Plan;
 use planner::PlanAnswer;
-use vector_text::read_field;
-use vector_text::signed;
+use vector_text::read_move;
 use vector_text::write_number;
 use vector_text::write_refused;
 
@@ -26,18 +24,8 @@ fn answer_line() -> bool {
     if io::read_full(0, &mut line) != 105 {
         return false;
     }
-    write_answer(planner::plan_move(read_move(&line)));
+    write_answer(planner::plan_move(read_move(&line, 0)));
     true
-}
-
-fn read_move(line: &[u8; 105]) -> Move {
-    Move {
-        displacement: signed(read_field(line, 0)),
-        velocity: read_field(line, 21).size,
-        acceleration: read_field(line, 42).size,
-        jerk: read_field(line, 63).size,
-        snap: read_field(line, 84).size,
-    }
 }
 
 fn write_answer(answer: PlanAnswer) {

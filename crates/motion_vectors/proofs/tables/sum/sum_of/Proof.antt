@@ -14,9 +14,6 @@ abbrev μ-loop : tie.MeasureT-loop
 loop-holds : tie.Need-loop-holds Inv-loop μ-loop
 loop-holds c = search needs
 
-times-33-requires : tie.Need-times-33-requires Inv-loop μ-loop
-times-33-requires c κs = search needs
-
 mul-bits-of : tie.Need-mul-bits-of Inv-loop μ-loop
 mul-bits-of c = search needs
 
@@ -26,8 +23,8 @@ shared-slice-copy-out-bits-of c = search needs
 bits-of-requires : tie.Need-bits-of-requires Inv-loop μ-loop
 bits-of-requires c κs = search needs
 
-wrapping-add-u64-requires : tie.Need-wrapping-add-u64-requires Inv-loop μ-loop
-wrapping-add-u64-requires c κs = search needs
+sum-with-requires : tie.Need-sum-with-requires Inv-loop μ-loop
+sum-with-requires c κs = search needs
 
 add-i : tie.Need-add-i Inv-loop μ-loop
 add-i c = search needs
@@ -48,11 +45,10 @@ sum-of-spec =
     Inv-loop
     μ-loop
     loop-holds
-    times-33-requires
     mul-bits-of
     shared-slice-copy-out-bits-of
     bits-of-requires
-    wrapping-add-u64-requires
+    sum-with-requires
     add-i
     loop-less
     loop-again

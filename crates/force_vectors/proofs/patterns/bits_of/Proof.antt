@@ -1,0 +1,26 @@
+-- `patterns::bits_of`: what equals itself is no NaN. Assumes nothing.
+use borrow.Author.Needs.{needs}
+use mathlib.Core.Path.{_≡_, sym, subst}
+use mathlib.Core.Bool.{true, not}
+use lib.Dec.{T}
+use lib.Ieee.{Float, nan, inf, fin, eq, isNan}
+use Rattle.force_vectors.proofs.patterns.bits_of.Statement.{statement}
+use Rattle.force_vectors.proofs.patterns.bits_of.Tie as tie
+
+is-number : (x : Float) → eq x x ≡ true → T (not (isNan x))
+unfolding eq isNan
+is-number nan h = subst T (sym h) tt
+is-number (inf s) h = tt
+is-number (fin s m e) h = tt
+
+float-to-bits-result : tie.Need-float-to-bits-result
+float-to-bits-result c = is-number (c .before .args .x) (c .if1 .taken)
+
+returns : tie.Need-returns
+returns c = search needs
+
+returns-2 : tie.Need-returns-2
+returns-2 c = search needs
+
+pub bits-of-spec : {M : Type 1} → statement M
+bits-of-spec = tie.close (tie.spec float-to-bits-result returns returns-2)

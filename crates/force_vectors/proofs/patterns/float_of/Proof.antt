@@ -1,0 +1,26 @@
+-- `patterns::float_of`: a pattern that without its sign is at most infinity's is no NaN's. Assumes nothing.
+use borrow.Author.Needs.{needs}
+use Prim.Native.Nat.{_%_}
+use mathlib.Core.Path.{sym, subst, _∙_}
+use mathlib.Core.Bool.{Bool, not}
+use lib.Dec.{T}
+use lib.Ieee.{binary64}
+use lib.Ieee.Bits.{nanBits-above}
+use borrow.Author.Tests.{le-ltb}
+use Rattle.force_vectors.proofs.patterns.float_of.Statement.{statement}
+use Rattle.force_vectors.proofs.patterns.float_of.Tie as tie
+
+returns : tie.Need-returns
+returns c = search needs
+
+float-from-bits-result : tie.Need-float-from-bits-result
+float-from-bits-result c =
+    let n = c .before .args .bits in
+    let no-nan = nanBits-above binary64 n ∙ le-ltb 9218868437227405312 (n % 9223372036854775808) (c .if1 .left) in
+    subst (λ (b : Bool). T (not b)) (sym no-nan) tt
+
+returns-2 : tie.Need-returns-2
+returns-2 c = search needs
+
+pub float-of-spec : {M : Type 1} → statement M
+float-of-spec = tie.close (tie.spec returns float-from-bits-result returns-2)
