@@ -84,10 +84,10 @@ module _ (X : ℤ) (a b c e D : ℕ) (h : WithinRange a b c e D) {m : Machine Fl
   abbrev snap : ℕ → ℤ
   snap = direction.snap X a b c e D
 
-  pub forces-can-run : {places : ℕ} → N a b c e + 2 ≤ places → CanRun (forceWriter x) (run X a b c e D h 2) firstRow places
+  pub forces-can-run : (more : ℕ) {places : ℕ} → more ≤ 2 → N a b c e + more ≤ places → CanRun (forceWriter x) (run X a b c e D h more) firstRow places
   unfolding rowStateAt earlierAt previousRow doubled earlier sum sums
-  forces-can-run l =
-      can-run X a b c e D h (carried is snap) 2
+  forces-can-run more few l =
+      can-run X a b c e D h (carried is snap) more
       (λ i k. record { step = step-fits X a b c e D h i (omega (arith, h .samples)); casts = castable X a b c e D h i })
       l
 

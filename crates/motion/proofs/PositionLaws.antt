@@ -25,9 +25,9 @@ module _ (X : ℤ) (a b c e D : ℕ) (h : WithinRange a b c e D) where
   abbrev snap : ℕ → ℤ
   snap = direction.snap X a b c e D
 
-  pub positions-can-run : {places : ℕ} → N a b c e + 1 ≤ places → CanRun positionWriter (run X a b c e D h 1) rest places
+  pub positions-can-run : (more : ℕ) {places : ℕ} → more ≤ 2 → N a b c e + more ≤ places → CanRun positionWriter (run X a b c e D h more) rest places
   unfolding sum sums
-  positions-can-run l = can-run X a b c e D h (carried snap) 1 (λ i k. step-fits X a b c e D h i (omega (arith, h .samples))) l
+  positions-can-run more few l = can-run X a b c e D h (carried snap) more (λ i k. step-fits X a b c e D h i (omega (arith, h .samples))) l
 
   pub positions-in :
       {old new : List ℤ} {end : State}

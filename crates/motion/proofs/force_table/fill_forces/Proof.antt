@@ -22,7 +22,7 @@ abbrev μ-loop : tie.MeasureT-loop
 μ-loop table₀ displacement levels durations feedforward current₀ i₀ table current i = 16 - i
 
 levels-of-requires : tie.Need-levels-of-requires Inv-loop μ-loop
-levels-of-requires c κs = let d = c .before in snap-small (d .args .displacement) _ _ _ _ _ (d .pre .0)
+levels-of-requires c κs = let d = c .before in omega (arith, snap-small (d .args .displacement) _ _ _ _ _ (d .pre .0))
 
 durations-of-requires : tie.Need-durations-of-requires Inv-loop μ-loop
 durations-of-requires c κs = c .before .before .pre .0 .ordered
@@ -45,7 +45,7 @@ loop-holds c =
     let l = c .before .before in
     let d = l .before .before .before in
     first-segment (d .pre .0) (l .durations-of .ensures) (levels (l .before))
-    (rw (c .first-row .ensures) (forces-can-run (d .args .displacement) _ _ _ _ _ (d .pre .0) (c .before .feedforward-of .ensures) (d .pre .1)))
+    (rw (c .first-row .ensures) (forces-can-run (d .args .displacement) _ _ _ _ _ (d .pre .0) (c .before .feedforward-of .ensures) _ (omega arith) (omega (arith, d .pre .1))))
 
 segment-at-requires : tie.Need-segment-at-requires Inv-loop μ-loop
 segment-at-requires c κs = omega arith
@@ -68,7 +68,7 @@ loop-again c =
     let g = d .before .before .segment-at in
     next-segment (d .before .before .before .before .loop .inv) (g .ensures)
     (toZ-ofZ {w = w64} {z = g .result .snap} (record { sfits = d .struct-told .given .1 .0 .1 }))
-    (d .before .before .before .loop-test .taken) (c .before .before .store-rows .ensures)
+    (omega (arith, d .before .before .before .loop-test .taken)) (c .before .before .store-rows .ensures)
 
 ran :
     (c : tie.After-loop Inv-loop μ-loop)
@@ -76,7 +76,7 @@ ran :
     let l = d .before .before in
     Ran (forceWriter (d .before .feedforward-of .result)) (snapsFrom (l .durations-of .result) (l .before .levels-of .result) 0) (d .first-row .result)
     (l .before .before .before .args .table .now) (c .before .loop .table) (c .before .loop .current)
-ran c = all-ran (c .before .loop .inv) (c .loop-test .left)
+ran c = all-ran (c .before .loop .inv) (omega (arith, c .loop-test .left))
 
 same-length : tie.Need-same-length Inv-loop μ-loop
 same-length c = ran-length (ran c)

@@ -20,7 +20,7 @@ abbrev μ-loop : tie.MeasureT-loop
 μ-loop table₀ displacement levels durations state₀ i₀ table state i = 16 - i
 
 levels-of-requires : tie.Need-levels-of-requires Inv-loop μ-loop
-levels-of-requires c κs = snap-small (c .args .displacement) _ _ _ _ _ (c .pre .0)
+levels-of-requires c κs = omega (arith, snap-small (c .args .displacement) _ _ _ _ _ (c .pre .0))
 
 durations-of-requires : tie.Need-durations-of-requires Inv-loop μ-loop
 durations-of-requires c κs = c .before .pre .0 .ordered
@@ -37,7 +37,7 @@ loop-holds : tie.Need-loop-holds Inv-loop μ-loop
 loop-holds c =
     let d = c .before .before .before in
     first-segment (d .pre .0) (c .before .durations-of .ensures) (levels (c .before .before))
-    (rw (c .at-rest .ensures) (positions-can-run (d .args .displacement) _ _ _ _ _ (d .pre .0) (d .pre .1)))
+    (rw (c .at-rest .ensures) (positions-can-run (d .args .displacement) _ _ _ _ _ (d .pre .0) _ (omega arith) (omega (arith, d .pre .1))))
 
 segment-at-requires : tie.Need-segment-at-requires Inv-loop μ-loop
 segment-at-requires c κs = omega arith
@@ -60,14 +60,14 @@ loop-again c =
     let g = d .before .before .segment-at in
     next-segment (d .before .before .before .before .loop .inv) (g .ensures)
     (toZ-ofZ {w = w64} {z = g .result .snap} (record { sfits = d .struct-told .given .1 .0 .1 }))
-    (d .before .before .before .loop-test .taken) (c .before .store-segment .ensures)
+    (omega (arith, d .before .before .before .loop-test .taken)) (c .before .store-segment .ensures)
 
 ran :
     (c : tie.After-loop Inv-loop μ-loop)
     → let d = c .before .before in
     Ran positionWriter (snapsFrom (d .before .durations-of .result) (d .before .before .levels-of .result) 0) (d .at-rest .result)
     (d .before .before .before .args .table .now) (c .before .loop .table) (c .before .loop .state)
-ran c = all-ran (c .before .loop .inv) (c .loop-test .left)
+ran c = all-ran (c .before .loop .inv) (omega (arith, c .loop-test .left))
 
 same-length : tie.Need-same-length Inv-loop μ-loop
 same-length c = ran-length (ran c)
