@@ -1,25 +1,19 @@
 -- Demand 3: the theorem `demand-3` proves the claim of specs/Demand3.antt. It rests on the rules (planner), on the laws of the profile
 -- (profile) and on the promises of the entries alone. Assumes nothing.
-use mathlib.Core.List.{List, _++_}
+use mathlib.Core.List.{List}
 use mathlib.Core.Path.{_≡_, sym, ap, _∙_}
 use Prim.Native.Nat.{ℕ, _+_, _≤_, _<_, zero-le}
 use native.Mathlib.Nat.{le-refl}
 use native.Mathlib.Omega.{arith}
 use borrow.Author.Tests.{le-ltb}
-use lib.Dec.{ltb}
 use lib.IntN.{ℤ, pos}
-use lib.ListN.{length, getD, drop, length-append, List·getD-append}
-use Rattle.planner.specs.Quantities.{distance}
-use Rattle.planner.specs.Intervals as rule
-use Rattle.planner.specs.Durations as durations
+use lib.ListN.{length, getD}
 use Rattle.planner.specs.Outcome.{samplesOf}
 use Rattle.planner.specs.Accepted.{Accepted}
-use Rattle.planner.proofs.Acceptance.{accepted-outcome}
-use Rattle.planner.proofs.PlannedFacts.{planned-facts}
 use Rattle.motion.specs.Values as value
 use Rattle.motion.specs.Result.{Result, refused, given}
 use Rattle.motion.specs.Sampling.{Values, valuesWith, sampleWith, Samples}
-use Rattle.motion.specs.Tables.{rowsFrom, tableOf, tableResult, FillsPositions}
+use Rattle.motion.specs.Tables.{FillsPositions}
 use Rattle.motion.specs.Demand3.{Claim}
 use Rattle.motion.proofs.IntegerLaws.{not-below-zero, pos-below}
 use Rattle.motion.proofs.CountLaws.{one-count}

@@ -7,7 +7,7 @@ use native.Mathlib.Omega.{arith}
 use lib.Dec.{T, leb, nleb→lt}
 use lib.IntN.{ℤ, pos, natAbs, _+ℤ_, _*ℤ_}
 use Rattle.planner.specs.Durations.{N}
-use Rattle.profile.specs.Sums.{sum, sums}
+use Rattle.profile.specs.Sums.{sums}
 use Rattle.profile.specs.Facts.{AtEnd}
 use Rattle.motion.specs.Direction as direction
 use Rattle.motion.specs.Direction.{along}

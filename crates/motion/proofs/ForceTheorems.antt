@@ -8,10 +8,10 @@ use lib.IntN.{ℤ, pos, natAbs}
 use lib.Ieee.{Float, fin, up, down, eq}
 use lib.Ieee.Positive.{positive, value-pos}
 use Rattle.planner.specs.Accepted.{Accepted}
-use Rattle.motion.specs.Machine.{Machine, plusZero, asRead, machineAsRead, machineInRange}
+use Rattle.motion.specs.Machine.{Machine, plusZero, asRead, machineAsRead}
 use Rattle.motion.specs.Doubled.{Doubled, cast}
 use Rattle.motion.specs.Formula.{twiceU, q1, q2, q3, q4}
-use Rattle.motion.specs.Exact.{signed, IsWhole, IsWholeRow, Castable, inWholes, Within53}
+use Rattle.motion.specs.Exact.{signed, IsWhole, Castable, inWholes, Within53}
 use Rattle.motion.specs.ForceTable.{rowNumbers, force, FillsForce}
 use Rattle.motion.specs.ForceClaims.{CastClaim, ExactClaim, RigidClaim, MinusZeroClaim}
 use Rattle.motion.proofs.EntryLaws.{entered-rule, within-range, numbers-are}

@@ -1,10 +1,10 @@
 -- The whole run of a plan: it can be made, segment by segment, and it leaves its rows in the table. Assumes nothing.
-use mathlib.Core.List.{List, [], _∷_, _++_, append-assoc}
-use mathlib.Core.Path.{_≡_, refl, sym, ap, ap₂, _∙_}
+use mathlib.Core.List.{List, [], _∷_, _++_}
+use mathlib.Core.Path.{_≡_, sym, ap, _∙_}
 use Prim.Native.Nat.{ℕ, _+_, _≤_, _<_}
 use native.Mathlib.Omega.{arith}
-use lib.IntN.{ℤ, pos}
-use lib.ListN.{length, length-append, drop, replicate, length-replicate}
+use lib.IntN.{ℤ}
+use lib.ListN.{length, drop}
 use Rattle.planner.specs.Durations.{p, q, r, s, N}
 use Rattle.profile.specs.Segments.{none, Segment, segment, segments}
 use Rattle.profile.specs.Profile as profile
@@ -15,11 +15,7 @@ use Rattle.profile.proofs.FourthOrder.{fifteen}
 use Rattle.motion.specs.Direction as direction
 use Rattle.motion.specs.Direction.{along}
 use Rattle.motion.specs.Tables.{rowsFrom}
-use Rattle.motion.specs.declared.segments.Durations.{Durations}
-use Rattle.motion.specs.declared.segments.Segment as code
-use Rattle.motion.specs.declared.snap.Levels.{Levels}
 use Rattle.motion.specs.Inner.Runs.{Writer, CanRun, Ran}
-use Rattle.motion.specs.Inner.SnapLevels.{AreLevels}
 use Rattle.motion.specs.Inner.SegmentSnaps.{withRest}
 use Rattle.motion.specs.Inner.Planned.{WithinRange, RowsIn}
 use Rattle.motion.proofs.OrderedLaws.{spread}

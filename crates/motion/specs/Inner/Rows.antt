@@ -1,6 +1,6 @@
 -- A row of a force table from what is carried along, and what is carried on.
 use mathlib.Core.Path.{_≡_, refl}
-use Prim.Native.Nat.{ℕ, _+_}
+use Prim.Native.Nat.{_+_}
 use lib.IntN.{ℤ, pos, _+ℤ_, _*ℤ_}
 use lib.Ieee.{Float, binary64, add, mul, div}
 use Rattle.motion.specs.Machine.{Machine, plusZero}

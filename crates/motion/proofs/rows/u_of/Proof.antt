@@ -1,7 +1,6 @@
 -- `u_of` meets its contract: each cast is exact, and the operations stand in the order of the rule. Assumes nothing.
 use mathlib.Core.Path.{refl}
 use lib.Ieee.{ofBits}
-use mir.Syntax.{w64}
 use mir.Facts.{toZ-ofZ}
 use Rattle.motion.specs.Doubled.{cast}
 use Rattle.motion.specs.Inner.Rows.{sumBy, uBy}
