@@ -1,17 +1,21 @@
 -- Different answers of the entries have different outcomes, so each promise leaves one answer. Assumes nothing.
 use mathlib.Core.List.{List}
-use mathlib.Core.Path.{_≡_, refl, sym, ap, _∙_}
+use mathlib.Core.Path.{_≡_, refl, sym, ap, ap₂, _∙_}
 use Prim.Native.Nat.{ℕ}
 use native.Mathlib.Omega.{arith}
 use lib.IntN.{ℤ}
+use lib.Ieee.{Float}
 use Rattle.planner.specs.Outcome.{Check}
 use Rattle.planner.proofs.AnswerLaws as planner
 use Rattle.motion.specs.Result.{Result, refused, given}
 use Rattle.motion.specs.Sampling.{Values, sampleWith, Samples}
+use Rattle.motion.specs.Force.{rigid, filtered}
 use Rattle.motion.specs.Tables.{Fills}
-use Rattle.motion.specs.Answer.{number, values, sampleOutcome, tableOutcome}
+use Rattle.motion.specs.Answer.{number, driveKind, values, sampleOutcome, tableOutcome}
 use Rattle.motion.proofs.CountLaws.{one-count}
 use Rattle.motion.specs.declared.Sample.{Sample}
+use Rattle.motion.specs.declared.drive.Drive.{Drive}
+use Rattle.motion.specs.declared.drive.Drive.the-variants.{Rigid, Filtered}
 use Rattle.motion.specs.declared.MotionRefusal.{MotionRefusal}
 use Rattle.motion.specs.declared.MotionRefusal.the-variants.{Unplanned, ShortTable, PastEnd, MachineRange}
 use Rattle.motion.specs.declared.SampleAnswer.{SampleAnswer}
@@ -69,6 +73,22 @@ table-injective (Filled x) (Filled y) h = ap Filled (same-given x y h)
 table-injective (Filled x) (NoTable y) h = absurd (apart (number y) x (sym h))
 table-injective (NoTable x) (Filled y) h = absurd (apart (number x) y h)
 table-injective (NoTable x) (NoTable y) h = ap NoTable (number-injective x y (same-number (number x) (number y) h))
+
+-- the checked drive: different drives are of different kinds
+kinds-apart : (c alpha beta : Float) → rigid c ≡ filtered alpha beta → ⊥
+kinds-apart c alpha beta h = let z : _≡_ {A = ℕ} 0 1 = cc in omega arith
+
+same-stiffness : (x y : Float) → rigid x ≡ rigid y → x ≡ y
+same-stiffness x y h = cc
+
+same-filter : (a b c d : Float) → filtered a b ≡ filtered c d → (a ≡ c) × (b ≡ d)
+same-filter a b c d h = (cc, cc)
+
+pub drive-injective : (x y : Drive) → driveKind x ≡ driveKind y → x ≡ y
+drive-injective (Rigid x) (Rigid y) h = ap Rigid (same-stiffness x y h)
+drive-injective (Rigid x) (Filtered c d) h = absurd (kinds-apart x c d h)
+drive-injective (Filtered a b) (Rigid y) h = absurd (kinds-apart y a b (sym h))
+drive-injective (Filtered a b) (Filtered c d) h = let same = same-filter a b c d h in ap₂ Filtered (same .0) (same .1)
 
 -- so a promise leaves one answer
 module _ {X : ℤ} {V₀ A₀ J₀ S₀ k : ℕ} where
