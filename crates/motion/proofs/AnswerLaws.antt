@@ -9,13 +9,13 @@ use Rattle.planner.specs.Outcome.{Check}
 use Rattle.planner.proofs.AnswerLaws as planner
 use Rattle.motion.specs.Result.{Result, refused, given}
 use Rattle.motion.specs.Sampling.{Values, sampleWith, Samples}
-use Rattle.motion.specs.Force.{rigid, filtered}
+use Rattle.motion.specs.ForceRows.Force.{rigid, filtered}
 use Rattle.motion.specs.Tables.{Fills}
 use Rattle.motion.specs.Answer.{number, driveKind, values, sampleOutcome, tableOutcome}
 use Rattle.motion.proofs.CountLaws.{one-count}
 use Rattle.motion.specs.declared.Sample.{Sample}
-use Rattle.motion.specs.declared.drive.Drive.{Drive}
-use Rattle.motion.specs.declared.drive.Drive.the-variants.{Rigid, Filtered}
+use Rattle.motion.specs.declared.force.drive.Drive.{Drive}
+use Rattle.motion.specs.declared.force.drive.Drive.the-variants.{Rigid, Filtered}
 use Rattle.motion.specs.declared.MotionRefusal.{MotionRefusal}
 use Rattle.motion.specs.declared.MotionRefusal.the-variants.{Unplanned, ShortTable, PastEnd, MachineRange}
 use Rattle.motion.specs.declared.SampleAnswer.{SampleAnswer}

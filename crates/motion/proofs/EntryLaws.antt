@@ -25,10 +25,10 @@ use Rattle.planner.proofs.PlannedFacts.{planned-facts, answer-facts}
 use Rattle.motion.specs.Direction as direction
 use Rattle.motion.specs.Values as value
 use Rattle.motion.specs.Result.{refused, given, resultOf}
-use Rattle.motion.specs.Machine.{Machine, machineAsRead}
-use Rattle.motion.specs.Doubled.{Doubled}
-use Rattle.motion.specs.Force.{forceRow}
-use Rattle.motion.specs.ForceTable.{rowNumbers, force}
+use Rattle.motion.specs.ForceRows.Machine.{Machine, machineAsRead}
+use Rattle.motion.specs.ForceRows.Doubled.{Doubled}
+use Rattle.motion.specs.ForceRows.Force.{forceRow}
+use Rattle.motion.specs.ForceRows.Table.{rowNumbers, force}
 use Rattle.motion.specs.Inner.Planned.{WithinRange, plannedNumbers, plannedForce}
 use Rattle.motion.proofs.KeptRules.{keeps}
 

@@ -17,11 +17,8 @@ pub mod RowLaws
 pub mod TableLaws
 pub mod SegmentRuns
 pub mod PositionLaws
--- The machine, its drive, and the rows of a force table.
-pub mod CastLaws
-pub mod MachineLaws
-pub mod DoubledLaws
-pub mod ForceLaws
+-- The rows of a force table, and what they are exactly.
+pub mod ForceRows
 -- From a plan to what the entries promise.
 pub mod EntryLaws
 pub mod SamplingLaws
@@ -35,11 +32,3 @@ pub mod HalfCountRule
 pub mod EndRule
 pub mod Demand3
 pub mod RuleAnswers
--- Floats that are whole numbers, and what the force rows are exactly.
-pub mod SignedLaws
-pub mod SignedSums
-pub mod RoundedLaws
-pub mod WholeFloats
-pub mod Exactness
-pub mod ForceTheorems
-pub mod ExactExample

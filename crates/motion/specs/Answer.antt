@@ -2,14 +2,14 @@
 use Prim.Native.Nat.{ℕ}
 use lib.Ieee.{Float}
 use Rattle.planner.specs.Answer as planner
-use Rattle.motion.specs.Machine as machine
-use Rattle.motion.specs.Force.{DriveKind, rigid, filtered}
+use Rattle.motion.specs.ForceRows.Machine as machine
+use Rattle.motion.specs.ForceRows.Force.{DriveKind, rigid, filtered}
 use Rattle.motion.specs.Result.{Result, refused, given}
 use Rattle.motion.specs.Sampling.{Values}
 use Rattle.motion.specs.declared.Sample.{Sample}
 use Rattle.motion.specs.declared.Machine.{Machine}
-use Rattle.motion.specs.declared.drive.Drive.{Drive}
-use Rattle.motion.specs.declared.drive.Drive.the-variants.{Rigid, Filtered}
+use Rattle.motion.specs.declared.force.drive.Drive.{Drive}
+use Rattle.motion.specs.declared.force.drive.Drive.the-variants.{Rigid, Filtered}
 use Rattle.motion.specs.declared.MotionRefusal.{MotionRefusal}
 use Rattle.motion.specs.declared.MotionRefusal.the-variants.{Unplanned, ShortTable, PastEnd, MachineRange}
 use Rattle.motion.specs.declared.SampleAnswer.{SampleAnswer}

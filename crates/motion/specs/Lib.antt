@@ -3,16 +3,10 @@
 pub mod Direction
 pub mod Values
 pub mod Count
-pub mod Machine
-pub mod Doubled
-pub mod Formula
-pub mod Force
-pub mod Exact
 pub mod Result
 pub mod Sampling
 pub mod Tables
-pub mod ForceTable
-pub mod ForceClaims
+pub mod ForceRows
 pub mod Answer
 pub mod Demand3
 pub mod Inner

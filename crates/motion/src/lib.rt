@@ -1,24 +1,17 @@
 // One sample of a move, and the tables that the drive and the feedback loop play. Every entry takes the move's own numbers and plans
 // inside.
-mod coefficients;
 mod count;
-mod doubled;
-mod drive;
-mod feedforward;
-mod force_table;
-mod machine_range;
+mod force;
 mod planned;
 mod refusal;
-mod rows;
 mod segments;
 mod snap;
 mod state;
 mod store;
-mod store_rows;
 mod sums;
 mod table;
 
-use crate::force_table::write_forces;
+use crate::force::table::write_forces;
 use crate::planned::samples_in_plan;
 use crate::refusal::unplanned;
 use crate::sums::sample_in_plan;
@@ -29,7 +22,7 @@ use planner::Refusal;
 ghost use mathlib.Core.Path.{_≡_};
 ghost use Rattle.motion.specs.Sampling.{Samples};
 ghost use Rattle.motion.specs.Tables.{FillsPositions, FillsReference};
-ghost use Rattle.motion.specs.ForceTable.{FillsForce};
+ghost use Rattle.motion.specs.ForceRows.Table.{FillsForce};
 ghost use Rattle.motion.specs.Answer.{number, machineOf, sampleOutcome, tableOutcome};
 
 // The values at a sample: snap, jerk, acceleration, velocity and position in sub-count units, and the position to the nearest count.

@@ -2,7 +2,7 @@
 use borrow.Author.Needs.{needs}
 use mir.Syntax.{w64}
 use mir.Facts.{toZ-ofZ}
-use Rattle.motion.specs.ForceTable.{FillsForce}
+use Rattle.motion.specs.ForceRows.Table.{FillsForce}
 use Rattle.motion.proofs.EntryLaws.{entered, not-planned, within-range, rows-are, force-is}
 use Rattle.motion.proofs.FillLaws.{fills-refused, fills}
 use Rattle.motion.proofs.fill_force.Statement.{statement}

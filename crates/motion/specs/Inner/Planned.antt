@@ -10,9 +10,9 @@ use Rattle.planner.specs.Durations.{N, P}
 use Rattle.planner.specs.Outcome.{Check, check, firstRefusal, mostSamples}
 use Rattle.planner.specs.Facts.{Ordered}
 use Rattle.motion.specs.Direction as direction
-use Rattle.motion.specs.Machine.{Machine, machineAsRead}
-use Rattle.motion.specs.Doubled.{Doubled, upTo, doubled}
-use Rattle.motion.specs.Force.{forceRow}
+use Rattle.motion.specs.ForceRows.Machine.{Machine, machineAsRead}
+use Rattle.motion.specs.ForceRows.Doubled.{Doubled, upTo, doubled}
+use Rattle.motion.specs.ForceRows.Force.{forceRow}
 use Rattle.motion.specs.Tables.{rowsFrom, tableOf}
 use Rattle.motion.specs.Result.{Result, refused, given}
 use Rattle.motion.specs.Count.{IsCount}

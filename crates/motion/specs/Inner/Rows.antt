@@ -3,18 +3,18 @@ use mathlib.Core.Path.{_≡_, refl}
 use Prim.Native.Nat.{_+_}
 use lib.IntN.{ℤ, pos, _+ℤ_, _*ℤ_}
 use lib.Ieee.{Float, binary64, add, mul, div}
-use Rattle.motion.specs.Machine.{Machine, plusZero}
-use Rattle.motion.specs.Doubled.{Doubled, cast}
-use Rattle.motion.specs.Formula.{floats, q1, q2, q3, q4}
-use Rattle.motion.specs.Force.{DriveKind, rigid, filtered, half, driveOf, filteredForce}
-use Rattle.motion.specs.Exact.{Castable}
+use Rattle.motion.specs.ForceRows.Machine.{Machine, plusZero}
+use Rattle.motion.specs.ForceRows.Doubled.{Doubled, cast}
+use Rattle.motion.specs.ForceRows.Formula.{floats, q1, q2, q3, q4}
+use Rattle.motion.specs.ForceRows.Force.{DriveKind, rigid, filtered, half, driveOf, filteredForce}
+use Rattle.motion.specs.ForceRows.Exact.{Castable}
 use Rattle.motion.specs.Answer.{driveKind}
-use Rattle.motion.specs.declared.coefficients.Coefficients.{Coefficients}
-use Rattle.motion.specs.declared.feedforward.Feedforward.{Feedforward}
-use Rattle.motion.specs.declared.rows.Row.{Row}
-use Rattle.motion.specs.declared.rows.RowState.{RowState}
-use Rattle.motion.specs.declared.doubled.Doubled as code
-use Rattle.motion.specs.declared.doubled.Earlier.{Earlier}
+use Rattle.motion.specs.declared.force.coefficients.Coefficients.{Coefficients}
+use Rattle.motion.specs.declared.force.feedforward.Feedforward.{Feedforward}
+use Rattle.motion.specs.declared.force.rows.Row.{Row}
+use Rattle.motion.specs.declared.force.rows.RowState.{RowState}
+use Rattle.motion.specs.declared.force.doubled.Doubled as code
+use Rattle.motion.specs.declared.force.doubled.Earlier.{Earlier}
 use Rattle.motion.specs.declared.state.State.{State}
 use Rattle.motion.specs.Inner.Steps.{stepped, rest, StepFits}
 use Rattle.motion.specs.Inner.Runs.{Writer}

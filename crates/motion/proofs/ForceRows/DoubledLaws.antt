@@ -1,0 +1,82 @@
+-- The doubled numbers of a plan's rows: after the last sample there is nothing to cut off, and no cast loses anything. Assumes nothing.
+use mathlib.Core.Bool.{Bool, true, false, not, cond}
+use mathlib.Core.Path.{_≡_, refl, sym, ap, _∙_, fun-ext}
+use Prim.Native.Nat.{ℕ, zero, suc, _+_, _≤_, _^_, zero-le}
+use native.Mathlib.Nat.{le-of-lt}
+use native.Mathlib.Omega.{arith}
+use lib.Dec.{T, leb, nleb→lt}
+use lib.IntN.{ℤ, pos, natAbs, _+ℤ_, _*ℤ_}
+use Rattle.planner.specs.Durations.{N}
+use Rattle.profile.specs.Sums.{sums}
+use Rattle.profile.specs.Facts.{AtEnd}
+use Rattle.motion.specs.Direction as direction
+use Rattle.motion.specs.Direction.{along}
+use Rattle.motion.specs.ForceRows.Doubled.{Doubled, earlier, upTo, doubled}
+use Rattle.motion.specs.ForceRows.Exact.{Castable}
+use Rattle.motion.specs.Inner.Steps.{stateAt}
+use Rattle.motion.specs.Inner.Planned.{WithinRange, plannedNumbers}
+use Rattle.motion.proofs.IntegerLaws.{size-sum, size-doubled}
+use Rattle.motion.proofs.DirectionLaws.{along-zero}
+use Rattle.motion.proofs.OrderedLaws.{at-end}
+use Rattle.motion.proofs.StateLaws.{directed, state-is, snap-slow, jerk-slow, acceleration-slow, velocity-slow}
+
+-- a value that is 0 after N anyway
+cut : (N : ℕ) (f : ℕ → ℤ) → ((k : ℕ) → N ≤ k → f k ≡ pos 0) → upTo N f ≡ f
+unfolding upTo
+cut N f h = fun-ext (λ k. by-test k (leb k N) (λ l. h k (le-of-lt (nleb→lt k N l))))
+  where
+    by-test : (k : ℕ) (t : Bool) → (T (not t) → f k ≡ pos 0) → cond t (f k) (pos 0) ≡ f k
+    by-test k true z = refl
+    by-test k false z = sym (z tt)
+
+earlier-size : (f : ℕ → ℤ) (most : ℕ) → ((k : ℕ) → natAbs (f k) ≤ most) → (n k : ℕ) → natAbs (earlier f n k) ≤ most
+unfolding earlier
+earlier-size f most h zero k = h k
+earlier-size f most h (suc n) zero = zero-le
+earlier-size f most h (suc n) (suc k) = earlier-size f most h n k
+
+twice : (x : ℤ) → natAbs x ≤ 2 ^ 50 → natAbs (pos 2 *ℤ x) ≤ 2 ^ 53
+twice x h = omega (arith, size-doubled x)
+
+both : (x y : ℤ) → natAbs x ≤ 2 ^ 50 → natAbs y ≤ 2 ^ 50 → natAbs (x +ℤ y) ≤ 2 ^ 53
+both x y h k = omega (arith, size-sum x y)
+
+module _ (X : ℤ) (a b c e D : ℕ) (h : WithinRange a b c e D) where
+  abbrev snap : ℕ → ℤ
+  snap = direction.snap X a b c e D
+
+  -- the numbers as the sums of the snap give them
+  abbrev pub summedNumbers : ℕ → Doubled ℤ
+  summedNumbers = doubled snap (sums 1 snap) (sums 2 snap) (sums 3 snap)
+
+  rests : (k : ℕ) → N a b c e ≤ k → AtEnd a b c e D k
+  rests k l = at-end (h .ordered) D k l
+
+  by-sums : (k : ℕ) → directed X a b c e D k ≡ stateAt snap k
+  by-sums k = sym (state-is X a b c e D k)
+
+  pub numbers-are : plannedNumbers X a b c e D ≡ summedNumbers
+  unfolding direction.snap direction.jerk direction.acceleration direction.velocity
+  numbers-are =
+      let n = N a b c e in
+      rw (
+        cut n (direction.snap X a b c e D) (λ k l. ap (along X) (rests k l .snap-rests) ∙ along-zero X),
+        cut n (direction.jerk X a b c e D) (λ k l. ap (along X) (rests k l .jerk-rests) ∙ along-zero X),
+        cut n (direction.acceleration X a b c e D) (λ k l. ap (along X) (rests k l .acceleration-rests) ∙ along-zero X),
+        cut n (direction.velocity X a b c e D) (λ k l. ap (along X) (rests k l .velocity-rests) ∙ along-zero X),
+      )
+      (λ i. doubled snap (λ k. by-sums k i .jerk) (λ k. by-sums k i .acceleration) (λ k. by-sums k i .velocity))
+
+  pub castable : (k : ℕ) → Castable (summedNumbers k)
+  unfolding doubled sums
+  castable k =
+      record {
+        d2 = twice (earlier snap 2 k) (earlier-size snap (2 ^ 50) (snap-slow X a b c e D h) 2 k);
+        j2 =
+            both (earlier (sums 1 snap) 1 k) (earlier (sums 1 snap) 2 k) (earlier-size (sums 1 snap) (2 ^ 50) (jerk-slow X a b c e D h) 1 k)
+            (earlier-size (sums 1 snap) (2 ^ 50) (jerk-slow X a b c e D h) 2 k);
+        a2 = twice (earlier (sums 2 snap) 1 k) (earlier-size (sums 2 snap) (2 ^ 50) (acceleration-slow X a b c e D h) 1 k);
+        v2 =
+            both (earlier (sums 3 snap) 0 k) (earlier (sums 3 snap) 1 k) (earlier-size (sums 3 snap) (2 ^ 50) (velocity-slow X a b c e D h) 0 k)
+            (earlier-size (sums 3 snap) (2 ^ 50) (velocity-slow X a b c e D h) 1 k);
+      }

@@ -1,0 +1,131 @@
+-- The hypotheses of `u-is-half` and `rigid-row` can be met: the first of document 01's moves, with a machine of small whole numbers, in
+-- every row. Assumes nothing.
+use mathlib.Core.Bool.{Bool, true, false, _&&_}
+use mathlib.Core.List.{List}
+use mathlib.Core.Logic.{inl, inr}
+use mathlib.Core.Path.{_≡_, refl, sym, subst}
+use Prim.Native.Nat.{ℕ, zero, suc, _+_, _*_, _^_, _≤_, _<_}
+use native.Mathlib.Nat.{not-suc-le-zero, le-of-suc-le-suc, eq-or-lt-of-le}
+use native.Mathlib.Omega.{arith}
+use lib.Dec.{T, leb, leb→le}
+use lib.IntN.{ℤ, pos, natAbs, _+ℤ_, _*ℤ_}
+use lib.Ieee.{Float, fin, up, down, lt, eq, le}
+use lib.ListN.{length, getD}
+use lib.Ieee.Fits.{and-l, and-r}
+use Rattle.planner.specs.Quantities.{unitsPerCount, distance}
+use Rattle.planner.specs.Least.{firstFrom, least}
+use Rattle.planner.specs.Intervals.{interval-a, interval-b, interval-c, interval-e, a, J₁, b, A₁, c, V₁, e}
+use Rattle.planner.specs.Outcome.{firstRefusal, samplesOf, outcomeOf}
+use Rattle.planner.proofs.PlannedFacts.{planned-facts}
+use Rattle.profile.specs.Segments.{segments, level, signed, snapIn}
+use Rattle.profile.specs.Sums.{sum}
+use Rattle.profile.specs.Profile as profile
+use Rattle.motion.specs.Direction as direction
+use Rattle.motion.specs.Direction.{along}
+use Rattle.motion.specs.ForceRows.Machine.{Machine, plusZero, asRead, machineAsRead, inRange, machineInRange}
+use Rattle.motion.specs.ForceRows.Doubled.{Doubled, earlier, upTo, doubled}
+use Rattle.motion.specs.ForceRows.Formula.{wholes, twiceU, q1, q2, q3, q4}
+use Rattle.motion.specs.ForceRows.Exact as exact
+use Rattle.motion.specs.ForceRows.Exact.{IsWhole, IsRounded, IsWholeMachine, Made, number, sumOf, productOf, inWholes, Within53, madeU}
+use Rattle.motion.specs.Values as value
+use Rattle.motion.specs.Result.{Result}
+use Rattle.motion.specs.ForceRows.Table.{rowNumbers, FillsForce}
+use Rattle.motion.specs.Inner.Planned.{plannedNumbers}
+use Rattle.motion.proofs.EntryLaws.{Entered, rows-are, numbers-are}
+use Rattle.motion.proofs.ForceRows.Theorems.{rigid-row}
+
+abbrev G : ℕ
+G = unitsPerCount
+
+-- "X = 8, V = 2G, A = S = J = G"
+plan : Entered (pos 8) (2 * G) G G G 1 1 2 4 G 0
+unfolding outcomeOf firstRefusal samplesOf distance a J₁ b A₁ c V₁ e interval-a interval-b interval-c interval-e least firstFrom
+plan = record { facts = planned-facts (record { outcome-is = refl }); outcome-is = refl }
+
+-- m1 = 3, m2 = 2, k1 = 1, k2 = 5, k12 = 0, c = 7, as floats m·2^e and as whole numbers
+pub machine : Machine Float
+machine =
+    record {
+      m1 = fin false 3 (pos 0);
+      m2 = fin false 1 (pos 1);
+      k1 = fin false 1 (pos 0);
+      k2 = fin false 5 (pos 0);
+      k12 = fin false 0 (pos 0);
+      c = fin false 7 (pos 0);
+    }
+
+pub whole : Machine ℤ
+whole = record { m1 = pos 3; m2 = pos 2; k1 = pos 1; k2 = pos 5; k12 = pos 0; c = pos 7 }
+
+is-whole : IsWholeMachine machine whole
+unfolding machine whole exact.signed
+is-whole = record { m1 = exactly refl; m2 = exactly refl; k1 = exactly refl; k2 = exactly refl; k12 = exactly refl; c = exactly refl }
+  where
+    exactly : {m n : ℕ} {e : ℤ} → m * up e * 1 ≡ n * down e → IsWhole (fin false m e) (pos n)
+    exactly {n = n} h = record { negative = false; size = n; whole-is = refl; value = (refl, h) }
+
+in-range : machineInRange (machineAsRead machine) ≡ true
+unfolding machine machineAsRead machineInRange asRead inRange le lt eq
+in-range = refl
+
+-- whether every product and partial sum is at most 2^53 in size, by computation
+within : Made → Bool
+within (number x z) = true
+within (sumOf s t) = within s && within t && leb (natAbs (inWholes s +ℤ inWholes t)) (2 ^ 53)
+within (productOf s t) = within s && within t && leb (natAbs (inWholes s *ℤ inWholes t)) (2 ^ 53)
+
+three : (p q r : Bool) → T (p && q && r) → T p × T q × T r
+three true true r h = (tt, tt, h)
+three true false r h = absurd h
+three false q r h = absurd h
+
+within-53 : (t : Made) → T (within t) → Within53 t
+unfolding within Within53
+within-53 (number x z) h = tt
+within-53 (sumOf s t) h =
+    let parts = three (within s) (within t) (leb (natAbs (inWholes s +ℤ inWholes t)) (2 ^ 53)) h in
+    (within-53 s (parts .0), within-53 t (parts .1), leb→le _ _ (parts .2))
+within-53 (productOf s t) h =
+    let parts = three (within s) (within t) (leb (natAbs (inWholes s *ℤ inWholes t)) (2 ^ 53)) h in
+    (within-53 s (parts .0), within-53 t (parts .1), leb→le _ _ (parts .2))
+
+allBelow : (ℕ → Bool) → ℕ → Bool
+allBelow f zero = true
+allBelow f (suc n) = allBelow f n && f n
+
+-- rows 0 to 9
+computed : ℕ → Bool
+computed k = within (madeU machine whole (plannedNumbers (pos 8) 1 1 2 4 G k))
+
+rows : T (allBelow computed 10)
+unfolding allBelow computed within machine whole inWholes twiceU q1 q2 q3 q4 doubled earlier upTo direction.snap direction.jerk direction.acceleration direction.velocity along profile.snap profile.jerk profile.acceleration profile.velocity sum segments snapIn signed level
+rows = tt
+
+all-below : (f : ℕ → Bool) (n : ℕ) → T (allBelow f n) → (k : ℕ) → k < n → T (f k)
+unfolding allBelow
+all-below f zero h k l = absurd (not-suc-le-zero l)
+all-below f (suc n) h k l =
+    elim (eq-or-lt-of-le l) [
+      | inl q ↦ let same : n ≡ k = omega (arith, q) in subst (λ (i : ℕ). T (f i)) same (and-r (allBelow f n) (f n) h)
+      | inr q ↦ all-below f n (and-l (allBelow f n) (f n) h) k (le-of-suc-le-suc q)
+    ]
+
+rows-within : (k : ℕ) → k < 10 → Within53 (madeU machine whole (rowNumbers (pos 8) (2 * G) G G G k))
+unfolding computed
+rows-within k l =
+    subst (λ (w : ℕ → Doubled ℤ). Within53 (madeU machine whole (w k))) (numbers-are plan)
+    (within-53 (madeU machine whole (plannedNumbers (pos 8) 1 1 2 4 G k)) (all-below computed 10 rows k l))
+
+-- so every row of a table that is filled for them is the exact half-sum over c, rounded once
+pub exact-example :
+    (old new : List Float) (result : Result ℕ)
+    → 10 ≤ length old
+    → FillsForce (pos 8) (2 * G) G G G machine old result new
+    → (k : ℕ)
+    → k < 10
+    → IsRounded (getD new k plusZero) (twiceU wholes whole (rowNumbers (pos 8) (2 * G) G G G k)) (2 * 7)
+unfolding whole
+exact-example old new result room filled k l =
+    let ten : value.N (pos 8) (2 * G) G G G + 2 ≡ 10 = sym (rows-are plan 2) in
+    rigid-row (pos 8) (2 * G) G G G (plan .facts .accepted) machine whole is-whole in-range refl old new result (rw ten room) filled k (rw ten l)
+    (rows-within k l)

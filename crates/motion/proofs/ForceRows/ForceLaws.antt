@@ -1,0 +1,103 @@
+-- The force rows of a plan, written along it: what is carried along gives the rule's row at each sample. Assumes nothing.
+use mathlib.Core.List.{List}
+use mathlib.Core.Path.{_≡_, refl, sym, ap, ap₂, subst, _∙_, fun-ext}
+use Prim.Native.Nat.{ℕ, zero, suc, _+_, _≤_}
+use native.Mathlib.Numerals.{add-one}
+use native.Mathlib.Omega.{arith}
+use lib.IntN.{ℤ}
+use lib.ListN.{length}
+use lib.Ieee.{Float}
+use Rattle.planner.specs.Durations.{N}
+use Rattle.profile.specs.Sums.{sum, sums}
+use Rattle.motion.specs.Direction as direction
+use Rattle.motion.specs.ForceRows.Machine.{Machine, plusZero}
+use Rattle.motion.specs.ForceRows.Doubled.{Doubled, earlier, doubled}
+use Rattle.motion.specs.ForceRows.Formula.{twiceU}
+use Rattle.motion.specs.ForceRows.Force.{DriveKind, rigid, filtered, driveOf, u, forceOf, forceRow}
+use Rattle.motion.specs.declared.force.feedforward.Feedforward.{Feedforward}
+use Rattle.motion.specs.declared.force.doubled.Earlier.{Earlier}
+use Rattle.motion.specs.declared.force.rows.Row.{Row}
+use Rattle.motion.specs.declared.force.rows.RowState.{RowState}
+use Rattle.motion.specs.Inner.Steps.{stateAt}
+use Rattle.motion.specs.Inner.Runs.{CanRun, Ran}
+use Rattle.motion.specs.Inner.Rows.{IsFeedforward, sumBy, uBy, forceBy, rowIn, firstRow, forceWriter}
+use Rattle.motion.specs.Inner.Planned.{WithinRange, RowsIn, plannedNumbers}
+use Rattle.motion.proofs.StepLaws.{next}
+use Rattle.motion.proofs.StateLaws.{step-fits}
+use Rattle.motion.proofs.RowLaws.{Carries}
+use Rattle.motion.proofs.TableLaws.{run, can-run, rows-in}
+use Rattle.motion.proofs.ForceRows.DoubledLaws.{numbers-are, castable}
+
+-- u and the force of the row before row k
+previousRow : DriveKind → (ℕ → Float) → ℕ → Row
+previousRow d us zero = record { u = plusZero; force = plusZero }
+previousRow d us (suc k) = record { u = us k; force = forceOf d us k }
+
+force-is : (d : DriveKind) (us : ℕ → Float) (k : ℕ) → forceBy d (us k) (previousRow d us k) ≡ forceOf d us k
+unfolding previousRow forceBy forceOf
+force-is (rigid stiffness) us k = refl
+force-is (filtered alpha beta) us zero = refl
+force-is (filtered alpha beta) us (suc k) = refl
+
+module _ {m : Machine Float} {x : Feedforward} (is : IsFeedforward m x) (f : ℕ → ℤ) where
+  abbrev numbers : ℕ → Doubled ℤ
+  numbers = doubled f (sums 1 f) (sums 2 f) (sums 3 f)
+
+  abbrev drive : DriveKind
+  drive = driveOf (m .k12) (m .c)
+
+  earlierAt : ℕ → Earlier
+  earlierAt k =
+      record {
+        snap1 = earlier f 1 k;
+        snap2 = earlier f 2 k;
+        jerk1 = earlier (sums 1 f) 1 k;
+        jerk2 = earlier (sums 1 f) 2 k;
+        acceleration1 = earlier (sums 2 f) 1 k;
+        velocity1 = earlier (sums 3 f) 1 k;
+      }
+
+  rowStateAt : ℕ → RowState
+  rowStateAt k = record { state = stateAt f k; earlier = earlierAt k; previous = previousRow drive (u m numbers) k }
+
+  u-is : (k : ℕ) → uBy (x .q) (numbers k) ≡ u m numbers k
+  unfolding uBy sumBy u twiceU
+  u-is k = let q = is .coefficients in rw (q .q1-is, q .q2-is, q .q3-is, q .q4-is) refl
+
+  row-is : (k : ℕ) → rowIn x (rowStateAt k) ≡ record { u = u m numbers k; force = forceRow m numbers k }
+  unfolding rowStateAt earlierAt doubled earlier forceRow
+  row-is k =
+      let force =
+      ap₂ (λ (d : DriveKind) (y : Float). forceBy d y (previousRow drive (u m numbers) k)) (is .drive-is) (u-is k)
+      ∙ force-is drive (u m numbers) k in
+      λ i. record { u = u-is k i; force = force i }
+
+  carried : Carries (forceWriter x) f rowStateAt
+  unfolding rowStateAt earlierAt previousRow earlier sum sums forceRow
+  carried =
+      record {
+        next = λ k. λ i. record { state = (next f k ∙ ap (stateAt f) (add-one k)) i; earlier = earlierAt (suc k); previous = row-is k i };
+        place-is = λ k. refl;
+      }
+
+module _ (X : ℤ) (a b c e D : ℕ) (h : WithinRange a b c e D) {m : Machine Float} {x : Feedforward} (is : IsFeedforward m x) where
+  abbrev snap : ℕ → ℤ
+  snap = direction.snap X a b c e D
+
+  pub forces-can-run : (more : ℕ) {places : ℕ} → more ≤ 2 → N a b c e + more ≤ places → CanRun (forceWriter x) (run X a b c e D h more) firstRow places
+  unfolding rowStateAt earlierAt previousRow doubled earlier sum sums
+  forces-can-run more few l =
+      can-run X a b c e D h (carried is snap) more
+      (λ i k. record { step = step-fits X a b c e D h i (omega (arith, h .samples)); casts = castable X a b c e D h i })
+      l
+
+  pub forces-in :
+      {old new : List Float} {end : RowState}
+      → N a b c e + 2 ≤ length old
+      → Ran (forceWriter x) (run X a b c e D h 2) firstRow old new end
+      → RowsIn (N a b c e + 2) (forceRow m (plannedNumbers X a b c e D)) old new
+  unfolding rowStateAt earlierAt previousRow earlier sum sums
+  forces-in {old} {new} l t =
+      let same : (λ k. rowIn x (rowStateAt is snap k) .force) ≡ forceRow m (plannedNumbers X a b c e D) =
+      fun-ext (λ k. ap (λ (r : Row). r .force) (row-is is snap k)) ∙ ap (forceRow m) (sym (numbers-are X a b c e D h)) in
+      subst (λ (row : ℕ → Float). RowsIn (N a b c e + 2) row old new) same (rows-in X a b c e D h (carried is snap) 2 l t)

@@ -1,0 +1,77 @@
+-- The claims of specs/ForceRows/Claims.antt, for every accepted move. They rest on the rules (planner), on the laws of the profile (profile)
+-- and on the promise of the entry alone. Assumes nothing.
+use mathlib.Core.Bool.{Bool, true, false, not, cond}
+use mathlib.Core.Path.{_≡_, refl, sym, ap, subst, _∙_}
+use Prim.Native.Nat.{ℕ, _*_, _<_}
+use lib.Dec.{T, lit<}
+use lib.IntN.{ℤ, pos, natAbs}
+use lib.Ieee.{Float, fin, up, down, eq}
+use lib.Ieee.Positive.{positive, value-pos}
+use Rattle.planner.specs.Accepted.{Accepted}
+use Rattle.motion.specs.ForceRows.Machine.{Machine, plusZero, asRead, machineAsRead}
+use Rattle.motion.specs.ForceRows.Doubled.{Doubled, cast}
+use Rattle.motion.specs.ForceRows.Formula.{twiceU, q1, q2, q3, q4}
+use Rattle.motion.specs.ForceRows.Exact.{signed, IsWhole, Castable, inWholes, Within53}
+use Rattle.motion.specs.ForceRows.Table.{rowNumbers, force, FillsForce}
+use Rattle.motion.specs.ForceRows.Claims.{CastClaim, ExactClaim, RigidClaim, MinusZeroClaim}
+use Rattle.motion.proofs.EntryLaws.{entered-rule, within-range, numbers-are}
+use Rattle.motion.proofs.FillLaws.{filled-row}
+use Rattle.motion.proofs.ForceRows.DoubledLaws as doubled
+use Rattle.motion.proofs.ForceRows.WholeFloats.{cast-exact, read-whole-machine}
+use Rattle.motion.proofs.ForceRows.MachineLaws.{stiffness-positive}
+use Rattle.motion.proofs.ForceRows.RoundedLaws.{by-form}
+use Rattle.motion.proofs.ForceRows.Exactness.{u-exact, rigid-exact}
+
+rows-castable : {X : ℤ} {V₀ A₀ J₀ S₀ : ℕ} → Accepted X V₀ A₀ J₀ S₀ → (k : ℕ) → Castable (rowNumbers X V₀ A₀ J₀ S₀ k)
+rows-castable {X} h k =
+    let p = entered-rule h in
+    let w = within-range p in
+    subst (λ (w : ℕ → Doubled ℤ). Castable (w k)) (sym (doubled.numbers-are X _ _ _ _ _ w) ∙ numbers-are p) (doubled.castable X _ _ _ _ _ w k)
+
+pub casts-exact : CastClaim
+unfolding cast
+casts-exact X V₀ A₀ J₀ S₀ h k =
+    let c = rows-castable h k in
+    record { d2 = cast-exact _ (c .d2); j2 = cast-exact _ (c .j2); a2 = cast-exact _ (c .a2); v2 = cast-exact _ (c .v2) }
+
+pub u-is-half : ExactClaim
+unfolding Within53 inWholes twiceU q1 q2 q3 q4
+u-is-half X V₀ A₀ J₀ S₀ h m whole is k within =
+    u-exact (machineAsRead m) whole (rowNumbers X V₀ A₀ J₀ S₀) k (read-whole-machine is) (rows-castable h k) within
+
+-- a whole number above 0
+above-zero : {x : Float} {z : ℤ} → T (positive x) → IsWhole x z → (z ≡ pos (natAbs z)) × (0 < natAbs z)
+unfolding signed
+above-zero p h = by-form (λ x z. T (positive x) → (z ≡ pos (natAbs z)) × (0 < natAbs z)) form h p
+  where
+    form : (s : Bool) (m : ℕ) (e : ℤ) (a : ℕ) → m * up e * 1 ≡ a * down e → T (positive (fin s m e)) → (signed s a ≡ pos (natAbs (signed s a))) × (0 < natAbs (signed s a))
+    form false m e a v p = (refl, value-pos (fin false m e) a 1 p (lit< tt) (refl, v))
+    form true m e a v p = absurd p
+
+pub rigid-row : RigidClaim
+unfolding FillsForce force Within53 inWholes twiceU q1 q2 q3 q4
+rigid-row X V₀ A₀ J₀ S₀ h m whole is range rigid old new rows room filled k l within =
+    let row = filled-row (entered-rule h) room (ap not range, tt) filled plusZero k l in
+    let read = read-whole-machine is in
+    let c = above-zero (stiffness-positive (machineAsRead m) range) (read .c) in
+    rw row (rigid-exact (machineAsRead m) whole (rowNumbers X V₀ A₀ J₀ S₀) k read (rows-castable h k) within rigid (c .0) (c .1))
+
+-- reading twice is reading once
+once-read : (x : Float) (t : Bool) → eq x plusZero ≡ t → asRead (cond t plusZero x) ≡ cond t plusZero x
+unfolding asRead eq
+once-read x true h = refl
+once-read x false h = ap (λ (t : Bool). cond t plusZero x) h
+
+read-twice : (m : Machine Float) → machineAsRead (machineAsRead m) ≡ machineAsRead m
+unfolding machineAsRead asRead
+read-twice m = λ i.
+    record { m1 = once (m .m1) i; m2 = once (m .m2) i; k1 = once (m .k1) i; k2 = once (m .k2) i; k12 = once (m .k12) i; c = once (m .c) i }
+  where
+    once : (x : Float) → asRead (asRead x) ≡ asRead x
+    once x = once-read x (eq x plusZero) refl
+
+pub minus-zeros : MinusZeroClaim
+unfolding FillsForce force
+minus-zeros X V₀ A₀ J₀ S₀ m old new new′ rows rows′ h l =
+    let same = rw (read-twice m) at l in
+    (h .outcome-is ∙ sym (same .outcome-is), h .table-is ∙ sym (same .table-is))

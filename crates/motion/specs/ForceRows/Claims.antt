@@ -1,0 +1,62 @@
+-- Document 01, "Force rows": what holds of the rows of an accepted move beyond the promise of the entry. Each is proved in
+-- proofs/ForceRows/Theorems.antt, and proofs/ForceRows/Example.antt shows that the hypotheses can be met.
+use mathlib.Core.Bool.{true}
+use mathlib.Core.List.{List}
+use mathlib.Core.Path.{_≡_}
+use Prim.Native.Nat.{ℕ, _+_, _*_, _≤_, _<_}
+use lib.IntN.{ℤ, pos, natAbs}
+use lib.Ieee.{Float}
+use lib.ListN.{length, getD}
+use Rattle.planner.specs.Accepted.{Accepted}
+use Rattle.motion.specs.Values as value
+use Rattle.motion.specs.ForceRows.Machine.{Machine, plusZero, machineAsRead, machineInRange}
+use Rattle.motion.specs.ForceRows.Doubled.{cast}
+use Rattle.motion.specs.ForceRows.Formula.{wholes, twiceU}
+use Rattle.motion.specs.ForceRows.Force.{u}
+use Rattle.motion.specs.ForceRows.Exact.{IsHalf, IsRounded, IsWholeMachine, IsWholeRow, Within53, madeU}
+use Rattle.motion.specs.Result.{Result}
+use Rattle.motion.specs.ForceRows.Table.{rowNumbers, FillsForce}
+
+-- The doubled whole numbers of an accepted move are cast exactly.
+abbrev pub CastClaim : Type 0
+CastClaim =
+    (X : ℤ) (V₀ A₀ J₀ S₀ : ℕ)
+    → Accepted X V₀ A₀ J₀ S₀
+    → (k : ℕ)
+    → IsWholeRow (cast (rowNumbers X V₀ A₀ J₀ S₀ k)) (rowNumbers X V₀ A₀ J₀ S₀ k)
+
+-- "If the six numbers are whole and every product and partial sum is at most 2^53 in size, then u is exactly half the whole-number sum."
+abbrev pub ExactClaim : Type 0
+ExactClaim =
+    (X : ℤ) (V₀ A₀ J₀ S₀ : ℕ)
+    → Accepted X V₀ A₀ J₀ S₀
+    → (m : Machine Float) (whole : Machine ℤ)
+    → IsWholeMachine m whole
+    → (k : ℕ)
+    → Within53 (madeU m whole (rowNumbers X V₀ A₀ J₀ S₀ k))
+    → IsHalf (u (machineAsRead m) (rowNumbers X V₀ A₀ J₀ S₀) k) (twiceU wholes whole (rowNumbers X V₀ A₀ J₀ S₀ k))
+
+-- Hence row k of every table that is filled for a rigid drive is that half-sum divided by c, rounded once.
+abbrev pub RigidClaim : Type 0
+RigidClaim =
+    (X : ℤ) (V₀ A₀ J₀ S₀ : ℕ)
+    → Accepted X V₀ A₀ J₀ S₀
+    → (m : Machine Float) (whole : Machine ℤ)
+    → IsWholeMachine m whole
+    → machineInRange (machineAsRead m) ≡ true
+    → whole .k12 ≡ pos 0
+    → (old new : List Float) (rows : Result ℕ)
+    → value.N X V₀ A₀ J₀ S₀ + 2 ≤ length old
+    → FillsForce X V₀ A₀ J₀ S₀ m old rows new
+    → (k : ℕ)
+    → k < value.N X V₀ A₀ J₀ S₀ + 2
+    → Within53 (madeU m whole (rowNumbers X V₀ A₀ J₀ S₀ k))
+    → IsRounded (getD new k plusZero) (twiceU wholes whole (rowNumbers X V₀ A₀ J₀ S₀ k)) (2 * natAbs (whole .c))
+
+-- "Minus zero is read as plus zero": a machine gives the outcome and the rows of the same machine with plus zeros.
+abbrev pub MinusZeroClaim : Type 0
+MinusZeroClaim =
+    (X : ℤ) (V₀ A₀ J₀ S₀ : ℕ) (m : Machine Float) (old new new′ : List Float) (rows rows′ : Result ℕ)
+    → FillsForce X V₀ A₀ J₀ S₀ m old rows new
+    → FillsForce X V₀ A₀ J₀ S₀ (machineAsRead m) old rows′ new′
+    → (rows ≡ rows′) × (new ≡ new′)
