@@ -47,11 +47,13 @@ module _ {E : Type 0} {rows : ℕ} {row : ℕ → E} {old : List E} where
   unfolding firstRefusal tableOf
   own-refused n test l h = record { outcome-is = rw (le-ltb (length old) rows l, h) refl; table-is = refl }
 
-  pub written : (own : List Check) {new : List E} → rows ≤ length old → Pass own → RowsIn rows row old new → WritesRows own rows row old (given rows) new
+  pub written : (own : List Check) {n : ℕ} {new : List E} → n ≡ rows → rows ≤ length old → Pass own → RowsIn rows row old new → WritesRows own rows row old (given n) new
   unfolding firstRefusal tableOf
-  written own l p h =
+  written own count l p h =
       record {
-        outcome-is = sym (ap (λ (t : Bool). firstRefusal refused (check 8 t ∷ own) (given rows)) (le-ltb (length old) rows l) ∙ all-pass own (given rows) p);
+        outcome-is =
+            ap given count
+            ∙ sym (ap (λ (t : Bool). firstRefusal refused (check 8 t ∷ own) (given rows)) (le-ltb (length old) rows l) ∙ all-pass own (given rows) p);
         table-is = h .table-is ∙ ap (λ (n : ℕ). rowsFrom row 0 rows ++ drop n old) (sym (length-rows row 0 rows));
       }
 

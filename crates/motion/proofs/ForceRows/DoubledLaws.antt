@@ -9,10 +9,10 @@ use lib.IntN.{ℤ, pos, natAbs, _+ℤ_, _*ℤ_}
 use Rattle.planner.specs.Durations.{N}
 use Rattle.profile.specs.Sums.{sums}
 use Rattle.profile.specs.Facts.{AtEnd}
+use Rattle.motion.specs.Inner.Rows.{Castable}
 use Rattle.motion.specs.Direction as direction
 use Rattle.motion.specs.Direction.{along}
 use Rattle.motion.specs.ForceRows.Doubled.{Doubled, earlier, upTo, doubled}
-use Rattle.motion.specs.ForceRows.Exact.{Castable}
 use Rattle.motion.specs.Inner.Steps.{stateAt}
 use Rattle.motion.specs.Inner.Planned.{WithinRange, plannedNumbers}
 use Rattle.motion.proofs.IntegerLaws.{size-sum, size-doubled}

@@ -6,39 +6,40 @@ use lib.IntN.{ℤ, pos}
 use lib.Ieee.{Float, binary64, add, mul}
 use Rattle.motion.specs.ForceRows.Machine.{Machine}
 use Rattle.motion.specs.ForceRows.Doubled.{Doubled, cast}
-use Rattle.motion.specs.ForceRows.Formula.{wholes, twiceU, q1, q2, q3, q4}
+use Rattle.motion.specs.ForceRows.Formula.{wholes, sumInU, q1, q2, q3, q4, weightedSum}
 use Rattle.motion.specs.ForceRows.Force.{u, driveOf, forceOf, forceRow}
-use Rattle.motion.specs.ForceRows.Exact.{IsWhole, IsHalf, IsRounded, IsWholeMachine, Castable}
-use Rattle.motion.specs.ForceRows.Exact.{Made, number, sumOf, productOf, inWholes, Within53, madeU}
+use Rattle.motion.specs.ForceRows.Exact.{IsWhole, IsHalf, IsRounded, IsWholeMachine}
+use Rattle.motion.specs.Inner.Rows.{Castable}
+use Rattle.motion.specs.ForceRows.Exact.{Made, leaf, sumOf, productOf, inWholes, Within53, madeU}
 use Rattle.motion.proofs.ForceRows.WholeFloats.{cast-exact, whole-sum, whole-product, half-exact, zero-equals}
 use Rattle.motion.proofs.ForceRows.RoundedLaws.{quotient-rounded}
 
 unfoldable pub inFloats : Made → Float
-inFloats (number x z) = x
+inFloats (leaf x z) = x
 inFloats (sumOf s t) = add binary64 (inFloats s) (inFloats t)
 inFloats (productOf s t) = mul binary64 (inFloats s) (inFloats t)
 
 -- Each number is whole; its own size does not matter.
 unfoldable pub Wholes : Made → Type 0
-Wholes (number x z) = IsWhole x z
+Wholes (leaf x z) = IsWhole x z
 Wholes (sumOf s t) = Wholes s × Wholes t
 Wholes (productOf s t) = Wholes s × Wholes t
 
 pub exact : (t : Made) → Wholes t → Within53 t → IsWhole (inFloats t) (inWholes t)
 unfolding inFloats inWholes Wholes Within53
-exact (number x z) h b = h
+exact (leaf x z) h b = h
 exact (sumOf s t) h b = whole-sum (exact s (h .0) (b .0)) (exact t (h .1) (b .1)) (b .2)
 exact (productOf s t) h b = whole-product (exact s (h .0) (b .0)) (exact t (h .1) (b .1)) (b .2)
 
 module _ (m : Machine Float) (whole : Machine ℤ) (w : ℕ → Doubled ℤ) (k : ℕ) where
   numbers-whole : IsWholeMachine m whole → Castable (w k) → Wholes (madeU m whole (w k))
-  unfolding Wholes twiceU q1 q2 q3 q4 cast
+  unfolding Wholes sumInU weightedSum q1 q2 q3 q4 cast
   numbers-whole h f = search cast-exact depth 12
 
   -- "u is exactly half the whole-number sum"
   pub u-exact :
-      IsWholeMachine m whole → Castable (w k) → Within53 (madeU m whole (w k)) → IsHalf (u m w k) (twiceU wholes whole (w k))
-  unfolding inFloats inWholes Within53 twiceU q1 q2 q3 q4 u
+      IsWholeMachine m whole → Castable (w k) → Within53 (madeU m whole (w k)) → IsHalf (u m w k) (sumInU wholes whole (w k))
+  unfolding inFloats inWholes Within53 sumInU weightedSum q1 q2 q3 q4 u
   u-exact h f b = half-exact (exact (madeU m whole (w k)) (numbers-whole h f) b) (b .2)
 
   -- "The drive is rigid if k12 is zero: the force is u/c."
@@ -50,7 +51,7 @@ module _ (m : Machine Float) (whole : Machine ℤ) (w : ℕ → Doubled ℤ) (k 
       → whole .k12 ≡ pos 0
       → whole .c ≡ pos c
       → 0 < c
-      → IsRounded (forceRow m w k) (twiceU wholes whole (w k)) (2 * c)
+      → IsRounded (forceRow m w k) (sumInU wholes whole (w k)) (2 * c)
   unfolding forceRow driveOf forceOf
   rigid-exact h f b rigid stiffness positive =
       rw (zero-equals (rw rigid at (h .k12))) (quotient-rounded (u-exact h f b) (rw stiffness at (h .c)) positive)

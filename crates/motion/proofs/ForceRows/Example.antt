@@ -1,16 +1,16 @@
 -- The hypotheses of `u-is-half` and `rigid-row` can be met: the first of document 01's moves, with a machine of small whole numbers, in
 -- every row. Assumes nothing.
 use mathlib.Core.Bool.{Bool, true, false, _&&_}
-use mathlib.Core.List.{List}
+use mathlib.Core.List.{List, [], _∷_}
 use mathlib.Core.Logic.{inl, inr}
 use mathlib.Core.Path.{_≡_, refl, sym, subst}
 use Prim.Native.Nat.{ℕ, zero, suc, _+_, _*_, _^_, _≤_, _<_}
 use native.Mathlib.Nat.{not-suc-le-zero, le-of-suc-le-suc, eq-or-lt-of-le}
 use native.Mathlib.Omega.{arith}
-use lib.Dec.{T, leb, leb→le}
+use lib.Dec.{T, leb, leb→le, lit≤}
 use lib.IntN.{ℤ, pos, natAbs, _+ℤ_, _*ℤ_}
 use lib.Ieee.{Float, fin, up, down, lt, eq, le}
-use lib.ListN.{length, getD}
+use lib.ListN.{getD, replicate}
 use lib.Ieee.Fits.{and-l, and-r}
 use Rattle.planner.specs.Quantities.{unitsPerCount, distance}
 use Rattle.planner.specs.Least.{firstFrom, least}
@@ -24,14 +24,14 @@ use Rattle.motion.specs.Direction as direction
 use Rattle.motion.specs.Direction.{along}
 use Rattle.motion.specs.ForceRows.Machine.{Machine, plusZero, asRead, machineAsRead, inRange, machineInRange}
 use Rattle.motion.specs.ForceRows.Doubled.{Doubled, earlier, upTo, doubled}
-use Rattle.motion.specs.ForceRows.Formula.{wholes, twiceU, q1, q2, q3, q4}
+use Rattle.motion.specs.ForceRows.Formula.{wholes, sumInU, q1, q2, q3, q4, weightedSum}
 use Rattle.motion.specs.ForceRows.Exact as exact
-use Rattle.motion.specs.ForceRows.Exact.{IsWhole, IsRounded, IsWholeMachine, Made, number, sumOf, productOf, inWholes, Within53, madeU}
+use Rattle.motion.specs.ForceRows.Exact.{IsWhole, IsRounded, IsWholeMachine, Made, leaf, sumOf, productOf, inWholes, Within53, madeU}
 use Rattle.motion.specs.Values as value
-use Rattle.motion.specs.Result.{Result}
-use Rattle.motion.specs.ForceRows.Table.{rowNumbers, FillsForce}
+use Rattle.motion.specs.ForceRows.Table.{machineCheck, rowNumbers, force, FillsForce}
 use Rattle.motion.specs.Inner.Planned.{plannedNumbers}
 use Rattle.motion.proofs.EntryLaws.{Entered, rows-are, numbers-are}
+use Rattle.motion.proofs.RuleAnswers.{ruleTable, rule-fills}
 use Rattle.motion.proofs.ForceRows.Theorems.{rigid-row}
 
 abbrev G : ℕ
@@ -70,7 +70,7 @@ in-range = refl
 
 -- whether every product and partial sum is at most 2^53 in size, by computation
 within : Made → Bool
-within (number x z) = true
+within (leaf x z) = true
 within (sumOf s t) = within s && within t && leb (natAbs (inWholes s +ℤ inWholes t)) (2 ^ 53)
 within (productOf s t) = within s && within t && leb (natAbs (inWholes s *ℤ inWholes t)) (2 ^ 53)
 
@@ -81,7 +81,7 @@ three false q r h = absurd h
 
 within-53 : (t : Made) → T (within t) → Within53 t
 unfolding within Within53
-within-53 (number x z) h = tt
+within-53 (leaf x z) h = tt
 within-53 (sumOf s t) h =
     let parts = three (within s) (within t) (leb (natAbs (inWholes s +ℤ inWholes t)) (2 ^ 53)) h in
     (within-53 s (parts .0), within-53 t (parts .1), leb→le _ _ (parts .2))
@@ -98,7 +98,7 @@ computed : ℕ → Bool
 computed k = within (madeU machine whole (plannedNumbers (pos 8) 1 1 2 4 G k))
 
 rows : T (allBelow computed 10)
-unfolding allBelow computed within machine whole inWholes twiceU q1 q2 q3 q4 doubled earlier upTo direction.snap direction.jerk direction.acceleration direction.velocity along profile.snap profile.jerk profile.acceleration profile.velocity sum segments snapIn signed level
+unfolding allBelow computed within machine whole inWholes sumInU weightedSum q1 q2 q3 q4 doubled earlier upTo direction.snap direction.jerk direction.acceleration direction.velocity along profile.snap profile.jerk profile.acceleration profile.velocity sum segments snapIn signed level
 rows = tt
 
 all-below : (f : ℕ → Bool) (n : ℕ) → T (allBelow f n) → (k : ℕ) → k < n → T (f k)
@@ -116,16 +116,17 @@ rows-within k l =
     subst (λ (w : ℕ → Doubled ℤ). Within53 (madeU machine whole (w k))) (numbers-are plan)
     (within-53 (madeU machine whole (plannedNumbers (pos 8) 1 1 2 4 G k)) (all-below computed 10 rows k l))
 
--- so every row of a table that is filled for them is the exact half-sum over c, rounded once
-pub exact-example :
-    (old new : List Float) (result : Result ℕ)
-    → 10 ≤ length old
-    → FillsForce (pos 8) (2 * G) G G G machine old result new
-    → (k : ℕ)
-    → k < 10
-    → IsRounded (getD new k plusZero) (twiceU wholes whole (rowNumbers (pos 8) (2 * G) G G G k)) (2 * 7)
-unfolding whole
-exact-example old new result room filled k l =
-    let ten : value.N (pos 8) (2 * G) G G G + 2 ≡ 10 = sym (rows-are plan 2) in
-    rigid-row (pos 8) (2 * G) G G G (plan .facts .accepted) machine whole is-whole in-range refl old new result (rw ten room) filled k (rw ten l)
+-- so every row of their table is the exact half-sum over c, rounded once: here the rule's own table, in ten places
+abbrev pub ten : List Float
+ten = replicate 10 plusZero
+
+abbrev pub filledTen : List Float
+filledTen = ruleTable (pos 8) (2 * G) G G G (machineCheck machine ∷ []) (value.N (pos 8) (2 * G) G G G + 2) (force (pos 8) (2 * G) G G G machine) ten
+
+pub exact-example : (k : ℕ) → k < 10 → IsRounded (getD filledTen k plusZero) (sumInU wholes whole (rowNumbers (pos 8) (2 * G) G G G k)) (2 * 7)
+unfolding whole FillsForce
+exact-example k l =
+    let rows : value.N (pos 8) (2 * G) G G G + 2 ≡ 10 = sym (rows-are plan 2) in
+    let filled = rule-fills (pos 8) (2 * G) G G G (machineCheck machine ∷ []) (value.N (pos 8) (2 * G) G G G + 2) (force (pos 8) (2 * G) G G G machine) ten in
+    rigid-row (pos 8) (2 * G) G G G (plan .facts .accepted) machine whole is-whole in-range refl ten filledTen _ (rw rows (lit≤ tt)) filled k (rw rows l)
     (rows-within k l)

@@ -12,7 +12,7 @@ use Rattle.profile.specs.Sums.{sum, sums}
 use Rattle.motion.specs.Direction as direction
 use Rattle.motion.specs.ForceRows.Machine.{Machine, plusZero}
 use Rattle.motion.specs.ForceRows.Doubled.{Doubled, earlier, doubled}
-use Rattle.motion.specs.ForceRows.Formula.{twiceU}
+use Rattle.motion.specs.ForceRows.Formula.{sumInU}
 use Rattle.motion.specs.ForceRows.Force.{DriveKind, rigid, filtered, driveOf, u, forceOf, forceRow}
 use Rattle.motion.specs.declared.force.feedforward.Feedforward.{Feedforward}
 use Rattle.motion.specs.declared.force.doubled.Earlier.{Earlier}
@@ -20,7 +20,7 @@ use Rattle.motion.specs.declared.force.rows.Row.{Row}
 use Rattle.motion.specs.declared.force.rows.RowState.{RowState}
 use Rattle.motion.specs.Inner.Steps.{stateAt}
 use Rattle.motion.specs.Inner.Runs.{CanRun, Ran}
-use Rattle.motion.specs.Inner.Rows.{IsFeedforward, sumBy, uBy, forceBy, rowIn, firstRow, forceWriter}
+use Rattle.motion.specs.Inner.Rows.{IsFeedforward, uBy, forceBy, rowIn, firstRow, forceWriter}
 use Rattle.motion.specs.Inner.Planned.{WithinRange, RowsIn, plannedNumbers}
 use Rattle.motion.proofs.StepLaws.{next}
 use Rattle.motion.proofs.StateLaws.{step-fits}
@@ -61,7 +61,7 @@ module _ {m : Machine Float} {x : Feedforward} (is : IsFeedforward m x) (f : ℕ
   rowStateAt k = record { state = stateAt f k; earlier = earlierAt k; previous = previousRow drive (u m numbers) k }
 
   u-is : (k : ℕ) → uBy (x .q) (numbers k) ≡ u m numbers k
-  unfolding uBy sumBy u twiceU
+  unfolding uBy u sumInU
   u-is k = let q = is .coefficients in rw (q .q1-is, q .q2-is, q .q3-is, q .q4-is) refl
 
   row-is : (k : ℕ) → rowIn x (rowStateAt k) ≡ record { u = u m numbers k; force = forceRow m numbers k }

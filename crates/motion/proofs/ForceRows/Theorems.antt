@@ -1,4 +1,4 @@
--- The claims of specs/ForceRows/Claims.antt, for every accepted move. They rest on the rules (planner), on the laws of the profile (profile)
+-- The claims of specs/ForceRows/Claims.antt. They rest on the rules (planner), on the laws of the profile (profile)
 -- and on the promise of the entry alone. Assumes nothing.
 use mathlib.Core.Bool.{Bool, true, false, not, cond}
 use mathlib.Core.Path.{_≡_, refl, sym, ap, subst, _∙_}
@@ -10,10 +10,11 @@ use lib.Ieee.Positive.{positive, value-pos}
 use Rattle.planner.specs.Accepted.{Accepted}
 use Rattle.motion.specs.ForceRows.Machine.{Machine, plusZero, asRead, machineAsRead}
 use Rattle.motion.specs.ForceRows.Doubled.{Doubled, cast}
-use Rattle.motion.specs.ForceRows.Formula.{twiceU, q1, q2, q3, q4}
-use Rattle.motion.specs.ForceRows.Exact.{signed, IsWhole, Castable, inWholes, Within53}
+use Rattle.motion.specs.ForceRows.Formula.{sumInU, q1, q2, q3, q4, weightedSum}
+use Rattle.motion.specs.ForceRows.Exact.{signed, IsWhole, inWholes, Within53}
+use Rattle.motion.specs.Inner.Rows.{Castable}
 use Rattle.motion.specs.ForceRows.Table.{rowNumbers, force, FillsForce}
-use Rattle.motion.specs.ForceRows.Claims.{CastClaim, ExactClaim, RigidClaim, MinusZeroClaim}
+use Rattle.motion.specs.ForceRows.Claims.{CastClaim, ExactClaim, RigidClaim, SameButZero, same, minus, SameButZeros, MinusZeroClaim}
 use Rattle.motion.proofs.EntryLaws.{entered-rule, within-range, numbers-are}
 use Rattle.motion.proofs.FillLaws.{filled-row}
 use Rattle.motion.proofs.ForceRows.DoubledLaws as doubled
@@ -35,7 +36,7 @@ casts-exact X V₀ A₀ J₀ S₀ h k =
     record { d2 = cast-exact _ (c .d2); j2 = cast-exact _ (c .j2); a2 = cast-exact _ (c .a2); v2 = cast-exact _ (c .v2) }
 
 pub u-is-half : ExactClaim
-unfolding Within53 inWholes twiceU q1 q2 q3 q4
+unfolding Within53 inWholes sumInU weightedSum q1 q2 q3 q4
 u-is-half X V₀ A₀ J₀ S₀ h m whole is k within =
     u-exact (machineAsRead m) whole (rowNumbers X V₀ A₀ J₀ S₀) k (read-whole-machine is) (rows-castable h k) within
 
@@ -49,29 +50,33 @@ above-zero p h = by-form (λ x z. T (positive x) → (z ≡ pos (natAbs z)) × (
     form true m e a v p = absurd p
 
 pub rigid-row : RigidClaim
-unfolding FillsForce force Within53 inWholes twiceU q1 q2 q3 q4
+unfolding FillsForce force Within53 inWholes sumInU weightedSum q1 q2 q3 q4
 rigid-row X V₀ A₀ J₀ S₀ h m whole is range rigid old new rows room filled k l within =
     let row = filled-row (entered-rule h) room (ap not range, tt) filled plusZero k l in
     let read = read-whole-machine is in
     let c = above-zero (stiffness-positive (machineAsRead m) range) (read .c) in
     rw row (rigid-exact (machineAsRead m) whole (rowNumbers X V₀ A₀ J₀ S₀) k read (rows-castable h k) within rigid (c .0) (c .1))
 
--- reading twice is reading once
-once-read : (x : Float) (t : Bool) → eq x plusZero ≡ t → asRead (cond t plusZero x) ≡ cond t plusZero x
+-- both zeros are read alike
+read-alike : {x y : Float} → SameButZero x y → asRead x ≡ asRead y
 unfolding asRead eq
-once-read x true h = refl
-once-read x false h = ap (λ (t : Bool). cond t plusZero x) h
+read-alike (same x) = refl
+read-alike minus = refl
 
-read-twice : (m : Machine Float) → machineAsRead (machineAsRead m) ≡ machineAsRead m
-unfolding machineAsRead asRead
-read-twice m = λ i.
-    record { m1 = once (m .m1) i; m2 = once (m .m2) i; k1 = once (m .k1) i; k2 = once (m .k2) i; k12 = once (m .k12) i; c = once (m .c) i }
-  where
-    once : (x : Float) → asRead (asRead x) ≡ asRead x
-    once x = once-read x (eq x plusZero) refl
+machines-alike : (m m′ : Machine Float) → SameButZeros m m′ → machineAsRead m ≡ machineAsRead m′
+unfolding machineAsRead
+machines-alike m m′ h = λ i.
+    record {
+      m1 = read-alike (h .m1) i;
+      m2 = read-alike (h .m2) i;
+      k1 = read-alike (h .k1) i;
+      k2 = read-alike (h .k2) i;
+      k12 = read-alike (h .k12) i;
+      c = read-alike (h .c) i;
+    }
 
 pub minus-zeros : MinusZeroClaim
 unfolding FillsForce force
-minus-zeros X V₀ A₀ J₀ S₀ m old new new′ rows rows′ h l =
-    let same = rw (read-twice m) at l in
-    (h .outcome-is ∙ sym (same .outcome-is), h .table-is ∙ sym (same .table-is))
+minus-zeros X V₀ A₀ J₀ S₀ m m′ alike old new new′ rows rows′ h l =
+    let first = rw (machines-alike m m′ alike) at h in
+    (first .outcome-is ∙ sym (l .outcome-is), first .table-is ∙ sym (l .table-is))

@@ -1,4 +1,4 @@
--- Document 01, "Force rows": what holds of the rows of an accepted move beyond the promise of the entry. Each is proved in
+-- Document 01, "Force rows": what holds of the rows beyond the promise of the entry. Each claim is proved in
 -- proofs/ForceRows/Theorems.antt, and proofs/ForceRows/Example.antt shows that the hypotheses can be met.
 use mathlib.Core.Bool.{true}
 use mathlib.Core.List.{List}
@@ -9,9 +9,9 @@ use lib.Ieee.{Float}
 use lib.ListN.{length, getD}
 use Rattle.planner.specs.Accepted.{Accepted}
 use Rattle.motion.specs.Values as value
-use Rattle.motion.specs.ForceRows.Machine.{Machine, plusZero, machineAsRead, machineInRange}
+use Rattle.motion.specs.ForceRows.Machine.{Machine, minusZero, plusZero, machineAsRead, machineInRange}
 use Rattle.motion.specs.ForceRows.Doubled.{cast}
-use Rattle.motion.specs.ForceRows.Formula.{wholes, twiceU}
+use Rattle.motion.specs.ForceRows.Formula.{wholes, sumInU}
 use Rattle.motion.specs.ForceRows.Force.{u}
 use Rattle.motion.specs.ForceRows.Exact.{IsHalf, IsRounded, IsWholeMachine, IsWholeRow, Within53, madeU}
 use Rattle.motion.specs.Result.{Result}
@@ -34,7 +34,7 @@ ExactClaim =
     → IsWholeMachine m whole
     → (k : ℕ)
     → Within53 (madeU m whole (rowNumbers X V₀ A₀ J₀ S₀ k))
-    → IsHalf (u (machineAsRead m) (rowNumbers X V₀ A₀ J₀ S₀) k) (twiceU wholes whole (rowNumbers X V₀ A₀ J₀ S₀ k))
+    → IsHalf (u (machineAsRead m) (rowNumbers X V₀ A₀ J₀ S₀) k) (sumInU wholes whole (rowNumbers X V₀ A₀ J₀ S₀ k))
 
 -- Hence row k of every table that is filled for a rigid drive is that half-sum divided by c, rounded once.
 abbrev pub RigidClaim : Type 0
@@ -51,12 +51,28 @@ RigidClaim =
     → (k : ℕ)
     → k < value.N X V₀ A₀ J₀ S₀ + 2
     → Within53 (madeU m whole (rowNumbers X V₀ A₀ J₀ S₀ k))
-    → IsRounded (getD new k plusZero) (twiceU wholes whole (rowNumbers X V₀ A₀ J₀ S₀ k)) (2 * natAbs (whole .c))
+    → IsRounded (getD new k plusZero) (sumInU wholes whole (rowNumbers X V₀ A₀ J₀ S₀ k)) (2 * natAbs (whole .c))
 
--- "Minus zero is read as plus zero": a machine gives the outcome and the rows of the same machine with plus zeros.
+-- The same number, or minus zero and plus zero.
+pub data SameButZero : Float → Float → Type 0 where
+  same : (x : Float) → SameButZero x x
+  minus : SameButZero minusZero plusZero
+
+pub record SameButZeros (m m′ : Machine Float) : Type 0 where
+  pub m1 : SameButZero (m .m1) (m′ .m1)
+  pub m2 : SameButZero (m .m2) (m′ .m2)
+  pub k1 : SameButZero (m .k1) (m′ .k1)
+  pub k2 : SameButZero (m .k2) (m′ .k2)
+  pub k12 : SameButZero (m .k12) (m′ .k12)
+  pub c : SameButZero (m .c) (m′ .c)
+
+-- "Minus zero is read as plus zero": for every move, a machine with minus zeros gives the outcome and the table of the same machine with
+-- plus zeros.
 abbrev pub MinusZeroClaim : Type 0
 MinusZeroClaim =
-    (X : ℤ) (V₀ A₀ J₀ S₀ : ℕ) (m : Machine Float) (old new new′ : List Float) (rows rows′ : Result ℕ)
+    (X : ℤ) (V₀ A₀ J₀ S₀ : ℕ) (m m′ : Machine Float)
+    → SameButZeros m m′
+    → (old new new′ : List Float) (rows rows′ : Result ℕ)
     → FillsForce X V₀ A₀ J₀ S₀ m old rows new
-    → FillsForce X V₀ A₀ J₀ S₀ (machineAsRead m) old rows′ new′
+    → FillsForce X V₀ A₀ J₀ S₀ m′ old rows′ new′
     → (rows ≡ rows′) × (new ≡ new′)

@@ -7,7 +7,7 @@ use lib.Ieee.{Float, binary64, round}
 use lib.Ieee.Exact.{HasValue}
 use Rattle.motion.specs.ForceRows.Machine.{Machine}
 use Rattle.motion.specs.ForceRows.Doubled.{Doubled, cast}
-use Rattle.motion.specs.ForceRows.Formula.{Arithmetic, twiceU}
+use Rattle.motion.specs.ForceRows.Formula.{Arithmetic, sumInU}
 
 -- The whole number of this sign and size.
 unfoldable pub signed : (negative : Bool) (size : ℕ) → ℤ
@@ -49,53 +49,46 @@ pub record IsWholeRow (x : Doubled Float) (w : Doubled ℤ) : Type 0 where
   pub a2 : IsWhole (x .a2) (w .a2)
   pub v2 : IsWhole (x .v2) (w .v2)
 
--- The doubled numbers of a row are within 2^53, so their casts lose nothing.
-pub record Castable (w : Doubled ℤ) : Type 0 where
-  pub d2 : natAbs (w .d2) ≤ 2 ^ 53
-  pub j2 : natAbs (w .j2) ≤ 2 ^ 53
-  pub a2 : natAbs (w .a2) ≤ 2 ^ 53
-  pub v2 : natAbs (w .v2) ≤ 2 ^ 53
-
--- A formula by how it is made; each number in it as a float and as the whole number that it stands for.
+-- A formula by how it is made; each leaf is a number as a float and as the whole number that it stands for.
 pub data Made : Type 0 where
-  number : (float : Float) (whole : ℤ) → Made
+  leaf : (float : Float) (whole : ℤ) → Made
   sumOf productOf : Made → Made → Made
 
 abbrev pub made : Arithmetic Made
-made = record { _⊕_ = sumOf; _⊗_ = productOf }
+made = record { _⊞_ = sumOf; _⊠_ = productOf }
 
 unfoldable pub inWholes : Made → ℤ
-inWholes (number x z) = z
+inWholes (leaf x z) = z
 inWholes (sumOf s t) = inWholes s +ℤ inWholes t
 inWholes (productOf s t) = inWholes s *ℤ inWholes t
 
 -- "every product and partial sum is at most 2^53 in size"
 unfoldable pub Within53 : Made → Type 0
-Within53 (number x z) = Unit {0}
+Within53 (leaf x z) = Unit {0}
 Within53 (sumOf s t) = Within53 s × Within53 t × (natAbs (inWholes s +ℤ inWholes t) ≤ 2 ^ 53)
 Within53 (productOf s t) = Within53 s × Within53 t × (natAbs (inWholes s *ℤ inWholes t) ≤ 2 ^ 53)
 
 module _ (m : Machine Float) (whole : Machine ℤ) (w : Doubled ℤ) where
-  abbrev machineNumbers : Machine Made
-  machineNumbers =
+  abbrev madeMachine : Machine Made
+  madeMachine =
       record {
-        m1 = number (m .m1) (whole .m1);
-        m2 = number (m .m2) (whole .m2);
-        k1 = number (m .k1) (whole .k1);
-        k2 = number (m .k2) (whole .k2);
-        k12 = number (m .k12) (whole .k12);
-        c = number (m .c) (whole .c);
+        m1 = leaf (m .m1) (whole .m1);
+        m2 = leaf (m .m2) (whole .m2);
+        k1 = leaf (m .k1) (whole .k1);
+        k2 = leaf (m .k2) (whole .k2);
+        k12 = leaf (m .k12) (whole .k12);
+        c = leaf (m .c) (whole .c);
       }
 
-  abbrev rowNumbers : Doubled Made
-  rowNumbers =
+  abbrev madeRow : Doubled Made
+  madeRow =
       record {
-        d2 = number (cast w .d2) (w .d2);
-        j2 = number (cast w .j2) (w .j2);
-        a2 = number (cast w .a2) (w .a2);
-        v2 = number (cast w .v2) (w .v2);
+        d2 = leaf (cast w .d2) (w .d2);
+        j2 = leaf (cast w .j2) (w .j2);
+        a2 = leaf (cast w .a2) (w .a2);
+        v2 = leaf (cast w .v2) (w .v2);
       }
 
   -- q1 to q4 and the sum in u.
   abbrev pub madeU : Made
-  madeU = twiceU made machineNumbers rowNumbers
+  madeU = sumInU made madeMachine madeRow

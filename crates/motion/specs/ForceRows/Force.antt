@@ -5,7 +5,7 @@ use lib.IntN.{ℤ, pos, negsuc}
 use lib.Ieee.{Float, fin, binary64, add, sub, mul, div, eq}
 use Rattle.motion.specs.ForceRows.Machine.{Machine, plusZero}
 use Rattle.motion.specs.ForceRows.Doubled.{Doubled, cast}
-use Rattle.motion.specs.ForceRows.Formula.{floats, twiceU}
+use Rattle.motion.specs.ForceRows.Formula.{floats, sumInU}
 
 -- 0.5, 1 and 2.
 abbrev pub half : Float
@@ -19,7 +19,7 @@ two = fin false 1 (pos 1)
 
 -- "u = (q1·d2 + q2·j2 + q3·a2 + q4·v2)·0.5"
 unfoldable pub u : Machine Float → (ℕ → Doubled ℤ) → ℕ → Float
-u m w k = mul binary64 (twiceU floats m (cast (w k))) half
+u m w k = mul binary64 (sumInU floats m (cast (w k))) half
 
 -- "g = 2·k12+c, α = (2·k12−c)/g and β = 1/g"
 module _ (k12 c : Float) where

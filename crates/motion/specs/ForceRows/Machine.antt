@@ -1,5 +1,5 @@
 -- Document 01, "Force rows": the machine, and which machines are in range.
-use mathlib.Core.Bool.{Bool, false, cond, _&&_}
+use mathlib.Core.Bool.{Bool, true, false, cond, _&&_}
 use lib.IntN.{pos, negsuc}
 use lib.Ieee.{Float, fin, eq, le}
 use lib.Ieee.Scale.{finite}
@@ -13,9 +13,12 @@ pub record Machine (A : Type 0) : Type 0 where
   pub k12 : A
   pub c : A
 
--- A finite float is m·2^e: 0, 2^20 and 2^−20.
+-- A finite float is a sign, m and e for m·2^e: +0, −0, 2^20 and 2^−20.
 abbrev pub plusZero : Float
 plusZero = fin false 0 (pos 0)
+
+abbrev pub minusZero : Float
+minusZero = fin true 0 (pos 0)
 
 abbrev pub most : Float
 most = fin false 1 (pos 20)

@@ -1,13 +1,12 @@
 -- A row of a force table from what is carried along, and what is carried on.
 use mathlib.Core.Path.{_≡_, refl}
-use Prim.Native.Nat.{_+_}
-use lib.IntN.{ℤ, pos, _+ℤ_, _*ℤ_}
-use lib.Ieee.{Float, binary64, add, mul, div}
+use Prim.Native.Nat.{_+_, _≤_, _^_}
+use lib.IntN.{ℤ, pos, natAbs, _+ℤ_, _*ℤ_}
+use lib.Ieee.{Float, binary64, mul, div}
 use Rattle.motion.specs.ForceRows.Machine.{Machine, plusZero}
 use Rattle.motion.specs.ForceRows.Doubled.{Doubled, cast}
-use Rattle.motion.specs.ForceRows.Formula.{floats, q1, q2, q3, q4}
+use Rattle.motion.specs.ForceRows.Formula.{floats, q1, q2, q3, q4, weightedSum}
 use Rattle.motion.specs.ForceRows.Force.{DriveKind, rigid, filtered, half, driveOf, filteredForce}
-use Rattle.motion.specs.ForceRows.Exact.{Castable}
 use Rattle.motion.specs.Answer.{driveKind}
 use Rattle.motion.specs.declared.force.coefficients.Coefficients.{Coefficients}
 use Rattle.motion.specs.declared.force.feedforward.Feedforward.{Feedforward}
@@ -18,6 +17,13 @@ use Rattle.motion.specs.declared.force.doubled.Earlier.{Earlier}
 use Rattle.motion.specs.declared.state.State.{State}
 use Rattle.motion.specs.Inner.Steps.{stepped, rest, StepFits}
 use Rattle.motion.specs.Inner.Runs.{Writer}
+
+-- The doubled numbers of a row are within 2^53, so their casts lose nothing.
+pub record Castable (w : Doubled ℤ) : Type 0 where
+  pub d2 : natAbs (w .d2) ≤ 2 ^ 53
+  pub j2 : natAbs (w .j2) ≤ 2 ^ 53
+  pub a2 : natAbs (w .a2) ≤ 2 ^ 53
+  pub v2 : natAbs (w .v2) ≤ 2 ^ 53
 
 pub record AreCoefficients (m : Machine Float) (q : Coefficients) : Type 0 where
   pub q1-is : q .q1 ≡ q1 floats m
@@ -48,15 +54,8 @@ earlierNext x s snap =
       velocity1 = s .velocity;
     }
 
--- The sum in u with these coefficients.
-unfoldable pub sumBy : Coefficients → Doubled Float → Float
-sumBy q w =
-    add binary64
-    (add binary64 (add binary64 (mul binary64 (q .q1) (w .d2)) (mul binary64 (q .q2) (w .j2))) (mul binary64 (q .q3) (w .a2)))
-    (mul binary64 (q .q4) (w .v2))
-
 unfoldable pub uBy : Coefficients → Doubled ℤ → Float
-uBy q w = mul binary64 (sumBy q (cast w)) half
+uBy q w = mul binary64 (weightedSum floats (q .q1) (q .q2) (q .q3) (q .q4) (cast w)) half
 
 unfoldable pub forceBy : DriveKind → (u : Float) → (previous : Row) → Float
 forceBy (rigid stiffness) u previous = div binary64 u stiffness

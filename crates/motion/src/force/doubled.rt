@@ -1,8 +1,7 @@
 // The doubled whole numbers of a row.
 use crate::state::State;
 ghost use mathlib.Core.Path.{_≡_};
-ghost use Rattle.motion.specs.ForceRows.Exact.{Castable};
-ghost use Rattle.motion.specs.Inner.Rows.{noneEarlier, earlierNext, doubledBy, doubledNumbers};
+ghost use Rattle.motion.specs.Inner.Rows.{Castable, noneEarlier, earlierNext, doubledBy, doubledNumbers};
 
 // What row k needs of the samples before k: the values at k−1 and at k−2.
 pub(crate) struct Earlier {

@@ -1,5 +1,7 @@
 -- `write_positions` meets its contract. Assumes nothing.
 use mathlib.Core.List.{[]}
+use mathlib.Core.Path.{ap}
+use Prim.Native.Nat.{ℕ, _+_}
 use native.Mathlib.Omega.{arith}
 use mir.Syntax.{w64}
 use mir.Facts.{toZ-ofZ}
@@ -26,11 +28,9 @@ same-length c = search needs
 returns-2 : tie.Need-returns-2
 returns-2 c =
     let d = c .before .before .before in
-    let a = d .before .before .args in
-    let back = toZ-ofZ {w = w64} {z = a .displacement} (d .before .before .fits .displacement) in
-    let rows = d .before .samples-in-plan .ensures in
-    let result = written [] (rw rows at (d .if1 .left)) tt (rw back at (c .before .fill-table .ensures)) in
-    rw rows result
+    let back = toZ-ofZ {w = w64} {z = d .before .before .args .displacement} (d .before .before .fits .displacement) in
+    let rows = ap (λ (n : ℕ). n + 1) (d .before .samples-in-plan .ensures) in
+    written [] rows (rw (d .before .samples-in-plan .ensures) at (d .if1 .left)) tt (rw back at (c .before .fill-table .ensures))
 
 pub write-positions-spec : {M : Type 1} → statement M
 write-positions-spec =

@@ -3,7 +3,8 @@ use mathlib.Core.Path.{refl}
 use lib.Ieee.{ofBits}
 use mir.Facts.{toZ-ofZ}
 use Rattle.motion.specs.ForceRows.Doubled.{cast}
-use Rattle.motion.specs.Inner.Rows.{sumBy, uBy}
+use Rattle.motion.specs.ForceRows.Formula.{weightedSum}
+use Rattle.motion.specs.Inner.Rows.{uBy}
 use Rattle.motion.proofs.ForceRows.CastLaws.{within-53, in-float}
 use Rattle.motion.proofs.force.rows.u_of.Statement.{statement}
 use Rattle.motion.proofs.force.rows.u_of.Tie as tie
@@ -25,7 +26,7 @@ int-to-float-result-4 c =
     rw (toZ-ofZ (within-53 _ (p .v2))) (in-float _ (p .v2))
 
 returns : tie.Need-returns
-unfolding ofBits cast sumBy uBy
+unfolding ofBits cast weightedSum uBy
 returns c =
     let p = c .before .before .before .before .before .before .before .before .before .before .before .before .pre in
     rw (toZ-ofZ (within-53 _ (p .d2)), toZ-ofZ (within-53 _ (p .j2)), toZ-ofZ (within-53 _ (p .a2)), toZ-ofZ (within-53 _ (p .v2))) refl

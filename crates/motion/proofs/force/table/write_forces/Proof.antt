@@ -3,6 +3,7 @@ use borrow.Author.Needs.{needs}
 use mathlib.Core.Bool.{not}
 use mathlib.Core.List.{[], _∷_}
 use mathlib.Core.Path.{_≡_, sym, ap, _∙_}
+use Prim.Native.Nat.{ℕ, _+_}
 use native.Mathlib.Omega.{arith}
 use mir.Syntax.{w64}
 use mir.Facts.{toZ-ofZ}
@@ -51,10 +52,10 @@ returns-3 c =
     let d = e .before .before .before in
     let a = d .before .before .before .args in
     let back = toZ-ofZ {w = w64} {z = a .displacement} (d .before .before .before .fits .displacement) in
-    let rows = d .before .samples-in-plan .ensures in
+    let samples = d .before .samples-in-plan .ensures in
     let filled = rw (back, e .before .before .machine-as-read .ensures) at (c .before .before .fill-forces .ensures) in
-    let result = written (machineCheck (machineOf (a .machine)) ∷ []) (rw rows at (d .if1 .left)) (sym (ap not (range (e .before))) ∙ e .if2 .left, tt) filled in
-    rw rows result
+    written (machineCheck (machineOf (a .machine)) ∷ []) (ap (λ (n : ℕ). n + 2) samples) (rw samples at (d .if1 .left))
+    (sym (ap not (range (e .before))) ∙ e .if2 .left, tt) filled
 
 pub write-forces-spec : {M : Type 1} → statement M
 write-forces-spec =
