@@ -11,3 +11,9 @@ pub mod WholeFloats
 pub mod Exactness
 pub mod Theorems
 pub mod Example
+-- How large floats can be, and that no row leaves the finite numbers.
+pub mod SizeLaws
+pub mod BoundedFloats
+pub mod BoundedMachine
+pub mod BoundedDrive
+pub mod FiniteRows

@@ -29,15 +29,15 @@ crossed m n a b e d v w =
     mul-mul-mul-comm m d 2 b ∙ ap₂ _*_ v (mul-comm d b ∙ sym w) ∙ simp (mul-one, mul-assoc, mul-comm, mul-left-comm)
 
 module _ (s t : Bool) (m n : ℕ) (e d : ℤ) where
-  opened-sum : add binary64 (fin s m e) (fin t n d) ≡ sum binary64 s (m * up e * down d) t (n * up d * down e) (down e * down d)
+  pub opened-sum : add binary64 (fin s m e) (fin t n d) ≡ sum binary64 s (m * up e * down d) t (n * up d * down e) (down e * down d)
   unfolding add
   opened-sum = refl
 
-  opened-product : mul binary64 (fin s m e) (fin t n d) ≡ round binary64 (unlike s t) (m * up e * (n * up d)) (down e * down d)
+  pub opened-product : mul binary64 (fin s m e) (fin t n d) ≡ round binary64 (unlike s t) (m * up e * (n * up d)) (down e * down d)
   unfolding mul
   opened-product = refl
 
-  opened-quotient : 0 < n → div binary64 (fin s m e) (fin t n d) ≡ round binary64 (unlike s t) (m * up e * down d) (n * up d * down e)
+  pub opened-quotient : 0 < n → div binary64 (fin s m e) (fin t n d) ≡ round binary64 (unlike s t) (m * up e * down d) (n * up d * down e)
   unfolding div
   opened-quotient h = rw (ne-eqb n 0 (omega arith))
 

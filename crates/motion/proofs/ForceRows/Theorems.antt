@@ -23,7 +23,7 @@ use Rattle.motion.proofs.ForceRows.MachineLaws.{stiffness-positive}
 use Rattle.motion.proofs.ForceRows.RoundedLaws.{by-form}
 use Rattle.motion.proofs.ForceRows.Exactness.{u-exact, rigid-exact}
 
-rows-castable : {X : ℤ} {V₀ A₀ J₀ S₀ : ℕ} → Accepted X V₀ A₀ J₀ S₀ → (k : ℕ) → Castable (rowNumbers X V₀ A₀ J₀ S₀ k)
+pub rows-castable : {X : ℤ} {V₀ A₀ J₀ S₀ : ℕ} → Accepted X V₀ A₀ J₀ S₀ → (k : ℕ) → Castable (rowNumbers X V₀ A₀ J₀ S₀ k)
 rows-castable {X} h k =
     let p = entered-rule h in
     let w = within-range p in

@@ -4,8 +4,10 @@ use mathlib.Core.Bool.{true}
 use mathlib.Core.List.{List}
 use mathlib.Core.Path.{_≡_}
 use Prim.Native.Nat.{ℕ, _+_, _*_, _≤_, _<_}
+use lib.Dec.{T}
 use lib.IntN.{ℤ, pos, natAbs}
 use lib.Ieee.{Float}
+use lib.Ieee.Scale.{finite}
 use lib.ListN.{length, getD}
 use Rattle.planner.specs.Accepted.{Accepted}
 use Rattle.motion.specs.Values as value
@@ -15,7 +17,7 @@ use Rattle.motion.specs.ForceRows.Formula.{wholes, sumInU}
 use Rattle.motion.specs.ForceRows.Force.{u}
 use Rattle.motion.specs.ForceRows.Exact.{IsHalf, IsRounded, IsWholeMachine, IsWholeRow, Within53, madeU}
 use Rattle.motion.specs.Result.{Result}
-use Rattle.motion.specs.ForceRows.Table.{rowNumbers, FillsForce}
+use Rattle.motion.specs.ForceRows.Table.{rowNumbers, force, FillsForce}
 
 -- The doubled whole numbers of an accepted move are cast exactly.
 abbrev pub CastClaim : Type 0
@@ -52,6 +54,17 @@ RigidClaim =
     → k < value.N X V₀ A₀ J₀ S₀ + 2
     → Within53 (madeU m whole (rowNumbers X V₀ A₀ J₀ S₀ k))
     → IsRounded (getD new k plusZero) (sumInU wholes whole (rowNumbers X V₀ A₀ J₀ S₀ k)) (2 * natAbs (whole .c))
+
+-- Every row of an accepted move and a machine in range is a finite number: no NaN and no infinity reaches the drive.
+abbrev pub FiniteClaim : Type 0
+FiniteClaim =
+    (X : ℤ) (V₀ A₀ J₀ S₀ : ℕ)
+    → Accepted X V₀ A₀ J₀ S₀
+    → (m : Machine Float)
+    → machineInRange (machineAsRead m) ≡ true
+    → (k : ℕ)
+    → k < value.N X V₀ A₀ J₀ S₀ + 2
+    → T (finite (force X V₀ A₀ J₀ S₀ m k))
 
 -- The same number, or minus zero and plus zero.
 pub data SameButZero : Float → Float → Type 0 where
