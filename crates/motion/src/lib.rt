@@ -3,19 +3,18 @@
 mod count;
 mod force;
 mod planned;
+mod positions;
 mod refusal;
 mod segments;
 mod snap;
 mod state;
-mod store;
 mod sums;
-mod table;
 
-use crate::force::table::write_forces;
+use crate::force::table::write_rows;
 use crate::planned::samples_in_plan;
+use crate::positions::table::write_positions;
 use crate::refusal::unplanned;
 use crate::sums::sample_in_plan;
-use crate::table::write_positions;
 use planner::Move;
 use planner::PlanAnswer;
 use planner::Refusal;
@@ -108,7 +107,7 @@ pub fn fill_force(m: Move, machine: Machine, table: &mut [f64]) -> TableAnswer
     let PlanAnswer::Planned(plan) = answer else {
         return TableAnswer::Refused(unplanned(answer));
     };
-    write_forces(table, m.displacement, plan, machine)
+    write_rows(table, m.displacement, plan, machine)
 }
 
 // The paper's number of a refusal.

@@ -10,11 +10,10 @@ use crate::state::step;
 use planner::Plan;
 ghost use mathlib.Core.Path.{_≡_};
 ghost use Prim.Native.Nat.{_≤_};
-ghost use Rattle.planner.specs.Durations.{N};
 ghost use mathlib.Core.List.{[], _∷_};
 ghost use Rattle.profile.specs.Widths.{snapBy};
 ghost use Rattle.motion.specs.Inner.Steps.{stateAt, StepsFitBy};
-ghost use Rattle.motion.specs.Inner.Planned.{WithinRange, SampleOf};
+ghost use Rattle.motion.specs.Inner.Planned.{PlanInRange, samplesIn, SampleOf};
 
 // The state at sample k.
 fn sum_to(plan: Plan, levels: Levels, k: u64) -> State
@@ -31,8 +30,8 @@ fn sum_to(plan: Plan, levels: Levels, k: u64) -> State
 
 // The values at sample k.
 pub(crate) fn sample_in_plan(displacement: i64, plan: Plan, k: u64) -> Sample
-    requires { ⌜ WithinRange (plan .a) (plan .b) (plan .c) (plan .e) (plan .snap) ⌝ }
-    requires { ⌜ k ≤ N (plan .a) (plan .b) (plan .c) (plan .e) ⌝ }
+    requires { ⌜ PlanInRange plan ⌝ }
+    requires { ⌜ k ≤ samplesIn plan ⌝ }
     ensures { λ r. ⌜ SampleOf displacement (plan .a) (plan .b) (plan .c) (plan .e) (plan .snap) k r ⌝ }
 {
     let levels = levels_of(displacement, plan.snap);

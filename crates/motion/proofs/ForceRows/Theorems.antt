@@ -1,6 +1,6 @@
 -- The claims of specs/ForceRows/Claims.antt. They rest on the rules (planner), on the laws of the profile (profile)
 -- and on the promise of the entry alone. Assumes nothing.
-use mathlib.Core.Bool.{Bool, true, false, not, cond}
+use mathlib.Core.Bool.{Bool, true, false, not}
 use mathlib.Core.Path.{_≡_, refl, sym, ap, subst, _∙_}
 use Prim.Native.Nat.{ℕ, _*_, _<_}
 use lib.Dec.{T, lit<}

@@ -24,8 +24,8 @@ returns : tie.Need-returns
 unfolding FillsForce
 returns c = fills-refused (c .before .before .before .plan-move .ensures) (c .unplanned .ensures)
 
-write-forces-requires : tie.Need-write-forces-requires
-write-forces-requires c κs =
+write-rows-requires : tie.Need-write-rows-requires
+write-rows-requires c κs =
     let d = c .before .before .before in
     within-range (entered (d .before .before .plan-move .ensures) (d .answer .given .1))
 
@@ -40,7 +40,7 @@ returns-2 c =
     let displacement = d .before .before .before .before .args .m .displacement in
     let back = toZ-ofZ {w = w64} {z = displacement} (record { sfits = w .before .struct-told .given .0 .1 }) in
     let h = entered (d .before .before .plan-move .ensures) (d .answer .given .1) in
-    fills h (rows-are h 2) (force-is h _) (rw back at (w .write-forces .ensures))
+    fills h (rows-are h 2) (force-is h _) (rw back at (w .write-rows .ensures))
 
 pub fill-force-spec : {M : Type 1} → statement M
 fill-force-spec =
@@ -51,6 +51,6 @@ fill-force-spec =
     enum-told
     unplanned-requires
     returns
-    write-forces-requires
+    write-rows-requires
     same-length
     returns-2)

@@ -9,6 +9,7 @@ use lib.Ieee.{Float}
 use Rattle.planner.specs.Durations.{N, P}
 use Rattle.planner.specs.Outcome.{Check, check, firstRefusal, mostSamples}
 use Rattle.planner.specs.Facts.{Ordered}
+use Rattle.planner.specs.declared.Plan.{Plan}
 use Rattle.motion.specs.Direction as direction
 use Rattle.motion.specs.ForceRows.Machine.{Machine, machineAsRead}
 use Rattle.motion.specs.ForceRows.Doubled.{Doubled, upTo, doubled}
@@ -50,3 +51,16 @@ plannedNumbers X a b c e D =
 
 abbrev pub plannedForce : ℤ → (a b c e D : ℕ) → Machine Float → ℕ → Float
 plannedForce X a b c e D m = forceRow (machineAsRead m) (plannedNumbers X a b c e D)
+
+-- The same of a plan as the code has it.
+abbrev pub PlanInRange : Plan → Type 0
+PlanInRange x = WithinRange (x .a) (x .b) (x .c) (x .e) (x .snap)
+
+abbrev pub samplesIn : Plan → ℕ
+samplesIn x = N (x .a) (x .b) (x .c) (x .e)
+
+abbrev pub positionsIn : ℤ → Plan → ℕ → ℤ
+positionsIn X x = direction.position X (x .a) (x .b) (x .c) (x .e) (x .snap)
+
+abbrev pub numbersIn : ℤ → Plan → ℕ → Doubled ℤ
+numbersIn X x = plannedNumbers X (x .a) (x .b) (x .c) (x .e) (x .snap)

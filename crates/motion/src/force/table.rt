@@ -14,17 +14,17 @@ use crate::snap::levels_of;
 use planner::Plan;
 ghost use mathlib.Core.List.{[], _∷_};
 ghost use Prim.Native.Nat.{_+_, _≤_};
-ghost use Rattle.planner.specs.Durations.{N};
+ghost use Rattle.motion.specs.ForceRows.Machine.{machineAsRead};
 ghost use Rattle.motion.specs.ForceRows.Force.{forceRow};
 ghost use Rattle.motion.specs.ForceRows.Table.{machineCheck};
 ghost use Rattle.motion.specs.Answer.{machineOf, tableOutcome};
-ghost use Rattle.motion.specs.Inner.Planned.{WithinRange, RowsIn, WritesRows, plannedNumbers, plannedForce};
+ghost use Rattle.motion.specs.Inner.Planned.{PlanInRange, samplesIn, numbersIn, RowsIn, WritesRows};
 
 // Writes rows 0 to N+1. The last two are those of samples with no snap.
-fn fill_forces(table: &mut [f64], displacement: i64, plan: Plan, machine: Machine)
-    requires { ⌜ WithinRange (plan .a) (plan .b) (plan .c) (plan .e) (plan .snap) ⌝ }
-    requires { do ⌜ N (plan .a) (plan .b) (plan .c) (plan .e) + 2 ≤ (← ⟦table.len()⟧) ⌝ }
-    ensures { λ r. ⌜ RowsIn (N (plan .a) (plan .b) (plan .c) (plan .e) + 2) (forceRow (machineOf machine) (plannedNumbers displacement (plan .a) (plan .b) (plan .c) (plan .e) (plan .snap))) (now (table .entry)) (now (table .exit)) ⌝ }
+fn fill_rows(table: &mut [f64], displacement: i64, plan: Plan, machine: Machine)
+    requires { ⌜ PlanInRange plan ⌝ }
+    requires { do ⌜ samplesIn plan + 2 ≤ (← ⟦table.len()⟧) ⌝ }
+    ensures { λ r. ⌜ RowsIn (samplesIn plan + 2) (forceRow (machineOf machine) (numbersIn displacement plan)) (now (table .entry)) (now (table .exit)) ⌝ }
 {
     let levels = levels_of(displacement, plan.snap);
     let durations = durations_of(plan, 2);
@@ -39,14 +39,14 @@ fn fill_forces(table: &mut [f64], displacement: i64, plan: Plan, machine: Machin
 }
 
 // The rows of a plan where the table has room for them and the machine is in range, else refusal 8 or 10.
-pub(crate) fn write_forces(
+pub(crate) fn write_rows(
     table: &mut [f64],
     displacement: i64,
     plan: Plan,
     machine: Machine,
 ) -> TableAnswer
-    requires { ⌜ WithinRange (plan .a) (plan .b) (plan .c) (plan .e) (plan .snap) ⌝ }
-    ensures { λ r. ⌜ WritesRows (machineCheck (machineOf machine) ∷ []) (N (plan .a) (plan .b) (plan .c) (plan .e) + 2) (plannedForce displacement (plan .a) (plan .b) (plan .c) (plan .e) (plan .snap) (machineOf machine)) (now (table .entry)) (tableOutcome r) (now (table .exit)) ⌝ }
+    requires { ⌜ PlanInRange plan ⌝ }
+    ensures { λ r. ⌜ WritesRows (machineCheck (machineOf machine) ∷ []) (samplesIn plan + 2) (forceRow (machineAsRead (machineOf machine)) (numbersIn displacement plan)) (now (table .entry)) (tableOutcome r) (now (table .exit)) ⌝ }
 {
     let rows = samples_in_plan(plan) + 2;
     if (table.len() as u64) < rows {
@@ -56,6 +56,6 @@ pub(crate) fn write_forces(
     if !machine_in_range(read) {
         return TableAnswer::Refused(MotionRefusal::MachineRange);
     }
-    fill_forces(table, displacement, plan, read);
+    fill_rows(table, displacement, plan, read);
     TableAnswer::Filled(rows)
 }

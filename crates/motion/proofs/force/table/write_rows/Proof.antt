@@ -1,4 +1,4 @@
--- `write_forces` meets its contract. Assumes nothing.
+-- `write_rows` meets its contract. Assumes nothing.
 use borrow.Author.Needs.{needs}
 use mathlib.Core.Bool.{not}
 use mathlib.Core.List.{[], _∷_}
@@ -11,8 +11,8 @@ use Rattle.motion.specs.ForceRows.Machine.{machineAsRead, machineInRange
 use Rattle.motion.specs.ForceRows.Table.{machineCheck}
 use Rattle.motion.specs.Answer.{machineOf}
 use Rattle.motion.proofs.FillLaws.{short, own-refused, written}
-use Rattle.motion.proofs.force.table.write_forces.Statement.{statement}
-use Rattle.motion.proofs.force.table.write_forces.Tie as tie
+use Rattle.motion.proofs.force.table.write_rows.Statement.{statement}
+use Rattle.motion.proofs.force.table.write_rows.Tie as tie
 
 samples-in-plan-requires : tie.Need-samples-in-plan-requires
 samples-in-plan-requires c κs = search needs
@@ -40,8 +40,8 @@ returns-2 c =
     let d = c .before .before .before in
     own-refused 10 _ (omega (arith, d .if1 .left, d .before .samples-in-plan .ensures)) (sym (ap not (range (c .before))) ∙ c .if2 .taken)
 
-fill-forces-requires : tie.Need-fill-forces-requires
-fill-forces-requires c κs = search needs
+fill-rows-requires : tie.Need-fill-rows-requires
+fill-rows-requires c κs = search needs
 
 same-length : tie.Need-same-length
 same-length c = search needs
@@ -53,12 +53,12 @@ returns-3 c =
     let a = d .before .before .before .args in
     let back = toZ-ofZ {w = w64} {z = a .displacement} (d .before .before .before .fits .displacement) in
     let samples = d .before .samples-in-plan .ensures in
-    let filled = rw (back, e .before .before .machine-as-read .ensures) at (c .before .before .fill-forces .ensures) in
+    let filled = rw (back, e .before .before .machine-as-read .ensures) at (c .before .before .fill-rows .ensures) in
     written (machineCheck (machineOf (a .machine)) ∷ []) (ap (λ (n : ℕ). n + 2) samples) (rw samples at (d .if1 .left))
     (sym (ap not (range (e .before))) ∙ e .if2 .left, tt) filled
 
-pub write-forces-spec : {M : Type 1} → statement M
-write-forces-spec =
+pub write-rows-spec : {M : Type 1} → statement M
+write-rows-spec =
     tie.close
     (tie.spec
     samples-in-plan-requires
@@ -67,6 +67,6 @@ write-forces-spec =
     machine-as-read-requires
     machine-in-range-requires
     returns-2
-    fill-forces-requires
+    fill-rows-requires
     same-length
     returns-3)

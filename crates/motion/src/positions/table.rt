@@ -2,24 +2,22 @@
 use crate::MotionRefusal;
 use crate::TableAnswer;
 use crate::planned::samples_in_plan;
+use crate::positions::store::store_segment;
 use crate::segments::durations_of;
 use crate::segments::segment_at;
 use crate::snap::levels_of;
 use crate::state::at_rest;
-use crate::store::store_segment;
 use planner::Plan;
 ghost use mathlib.Core.List.{[]};
 ghost use Prim.Native.Nat.{_+_, _≤_};
-ghost use Rattle.planner.specs.Durations.{N};
-ghost use Rattle.motion.specs.Direction.{position};
 ghost use Rattle.motion.specs.Answer.{tableOutcome};
-ghost use Rattle.motion.specs.Inner.Planned.{WithinRange, RowsIn, WritesRows};
+ghost use Rattle.motion.specs.Inner.Planned.{PlanInRange, samplesIn, positionsIn, RowsIn, WritesRows};
 
 // Writes the positions at samples 0 to N. The last row is that of a sample with no snap.
 fn fill_table(table: &mut [i64], displacement: i64, plan: Plan)
-    requires { ⌜ WithinRange (plan .a) (plan .b) (plan .c) (plan .e) (plan .snap) ⌝ }
-    requires { do ⌜ N (plan .a) (plan .b) (plan .c) (plan .e) + 1 ≤ (← ⟦table.len()⟧) ⌝ }
-    ensures { λ r. ⌜ RowsIn (N (plan .a) (plan .b) (plan .c) (plan .e) + 1) (position displacement (plan .a) (plan .b) (plan .c) (plan .e) (plan .snap)) (now (table .entry)) (now (table .exit)) ⌝ }
+    requires { ⌜ PlanInRange plan ⌝ }
+    requires { do ⌜ samplesIn plan + 1 ≤ (← ⟦table.len()⟧) ⌝ }
+    ensures { λ r. ⌜ RowsIn (samplesIn plan + 1) (positionsIn displacement plan) (now (table .entry)) (now (table .exit)) ⌝ }
 {
     let levels = levels_of(displacement, plan.snap);
     let durations = durations_of(plan, 1);
@@ -34,8 +32,8 @@ fn fill_table(table: &mut [i64], displacement: i64, plan: Plan)
 
 // The rows of a plan where the table has room for them, else refusal 8.
 pub(crate) fn write_positions(table: &mut [i64], displacement: i64, plan: Plan) -> TableAnswer
-    requires { ⌜ WithinRange (plan .a) (plan .b) (plan .c) (plan .e) (plan .snap) ⌝ }
-    ensures { λ r. ⌜ WritesRows [] (N (plan .a) (plan .b) (plan .c) (plan .e) + 1) (position displacement (plan .a) (plan .b) (plan .c) (plan .e) (plan .snap)) (now (table .entry)) (tableOutcome r) (now (table .exit)) ⌝ }
+    requires { ⌜ PlanInRange plan ⌝ }
+    ensures { λ r. ⌜ WritesRows [] (samplesIn plan + 1) (positionsIn displacement plan) (now (table .entry)) (tableOutcome r) (now (table .exit)) ⌝ }
 {
     let rows = samples_in_plan(plan) + 1;
     if (table.len() as u64) < rows {

@@ -7,8 +7,8 @@ use mir.Syntax.{w64}
 use mir.Facts.{toZ-ofZ}
 use Rattle.motion.proofs.FillLaws.{short, written}
 use borrow.Author.Needs.{needs}
-use Rattle.motion.proofs.table.write_positions.Statement.{statement}
-use Rattle.motion.proofs.table.write_positions.Tie as tie
+use Rattle.motion.proofs.positions.table.write_positions.Statement.{statement}
+use Rattle.motion.proofs.positions.table.write_positions.Tie as tie
 
 samples-in-plan-requires : tie.Need-samples-in-plan-requires
 samples-in-plan-requires c κs = search needs

@@ -1,4 +1,4 @@
--- `fill_forces` meets its contract. The loop's invariant: the segments that are left come to the same as all of them. Assumes nothing.
+-- `fill_rows` meets its contract. The loop's invariant: the segments that are left come to the same as all of them. Assumes nothing.
 use mathlib.Core.Path.{subst}
 use Prim.Native.Nat.{_-_}
 use native.Mathlib.Omega.{arith}
@@ -11,8 +11,8 @@ use Rattle.motion.proofs.StateLaws.{snap-small}
 use Rattle.motion.proofs.RunLaws.{ran-length}
 use Rattle.motion.proofs.SegmentRuns.{snapsFrom, SegmentsLeft, first-segment, plan-ran, segment-can-run, next-segment, all-ran}
 use Rattle.motion.proofs.ForceRows.ForceLaws.{forces-can-run, forces-in}
-use Rattle.motion.proofs.force.table.fill_forces.Statement.{statement}
-use Rattle.motion.proofs.force.table.fill_forces.Tie as tie
+use Rattle.motion.proofs.force.table.fill_rows.Statement.{statement}
+use Rattle.motion.proofs.force.table.fill_rows.Tie as tie
 
 abbrev Inv-loop : tie.InvT-loop
 Inv-loop table₀ displacement levels durations feedforward current₀ i₀ table current i =
@@ -89,5 +89,5 @@ returns c =
     let whole = plan-ran (d .pre .0) (l .durations-of .ensures) (levels (l .before)) (ran c) in
     forces-in (d .args .displacement) _ _ _ _ _ (d .pre .0) (r .before .feedforward-of .ensures) (d .pre .1) (rw (r .first-row .ensures) at whole)
 
-pub fill-forces-spec : {M : Type 1} → statement M
-fill-forces-spec = tie.close (tie.spec Inv-loop μ-loop levels-of-requires durations-of-requires feedforward-of-requires first-row-requires loop-holds segment-at-requires store-rows-requires add-i loop-less loop-again same-length returns)
+pub fill-rows-spec : {M : Type 1} → statement M
+fill-rows-spec = tie.close (tie.spec Inv-loop μ-loop levels-of-requires durations-of-requires feedforward-of-requires first-row-requires loop-holds segment-at-requires store-rows-requires add-i loop-less loop-again same-length returns)

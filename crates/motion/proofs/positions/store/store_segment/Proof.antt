@@ -11,8 +11,8 @@ use lib.ListN.{replicate, length}
 use Rattle.motion.specs.declared.state.State.{State}
 use Rattle.motion.specs.Inner.Runs.{positionWriter, Ran}
 use Rattle.motion.proofs.RunLaws.{Remaining, all-left, one-done, one-of, first-fits, none-of, ran-length}
-use Rattle.motion.proofs.store.store_segment.Statement.{statement}
-use Rattle.motion.proofs.store.store_segment.Tie as tie
+use Rattle.motion.proofs.positions.store.store_segment.Statement.{statement}
+use Rattle.motion.proofs.positions.store.store_segment.Tie as tie
 
 abbrev Inv-loop : tie.InvT-loop
 Inv-loop table₀ count snap current₀ left₀ table current left =

@@ -10,8 +10,8 @@ use Rattle.motion.proofs.StateLaws.{snap-small}
 use Rattle.motion.proofs.RunLaws.{ran-length}
 use Rattle.motion.proofs.SegmentRuns.{snapsFrom, SegmentsLeft, first-segment, plan-ran, segment-can-run, next-segment, all-ran}
 use Rattle.motion.proofs.PositionLaws.{positions-can-run, positions-in}
-use Rattle.motion.proofs.table.fill_table.Statement.{statement}
-use Rattle.motion.proofs.table.fill_table.Tie as tie
+use Rattle.motion.proofs.positions.table.fill_table.Statement.{statement}
+use Rattle.motion.proofs.positions.table.fill_table.Tie as tie
 
 abbrev Inv-loop : tie.InvT-loop
 Inv-loop table₀ displacement levels durations state₀ i₀ table state i = SegmentsLeft positionWriter durations levels state₀ table₀ i state table

@@ -1,0 +1,3 @@
+// The table of positions.
+pub(crate) mod store;
+pub(crate) mod table;
