@@ -34,7 +34,7 @@ pub struct Sample {
     pub count: i64,
 }
 
-// A two-mass machine: masses, dampings and stiffness, with time in samples. The names are the paper's.
+// A two-mass machine, in the paper's names: masses m1 and m2, dampings k1, k2 and k12, stiffness c. Time is in samples.
 pub struct Machine {
     pub m1: f64,
     pub m2: f64,

@@ -1,5 +1,5 @@
--- Document 01, "Force rows": what holds of the rows beyond the promise of the entry. Each claim is proved in
--- proofs/ForceRows/Theorems.antt, and proofs/ForceRows/Example.antt shows that the hypotheses can be met.
+-- Document 01, "Force rows": what holds of the rows beyond the promise of the entry. The claims are proved in Theorems.antt and
+-- FiniteRows.antt of proofs/ForceRows, and Example.antt there shows that the hypotheses of exactness can be met.
 use mathlib.Core.Bool.{true}
 use mathlib.Core.List.{List}
 use mathlib.Core.Path.{_≡_}

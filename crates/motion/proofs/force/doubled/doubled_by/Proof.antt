@@ -2,6 +2,7 @@
 use mathlib.Core.Path.{refl}
 use mir.Syntax.{w64}
 use mir.Facts.{toZ-ofZ}
+use Rattle.motion.specs.Inner.Rows.{doubledBy}
 use Rattle.motion.proofs.ForceRows.CastLaws.{within-53}
 use Rattle.motion.proofs.force.doubled.doubled_by.Statement.{statement}
 use Rattle.motion.proofs.force.doubled.doubled_by.Tie as tie
@@ -35,6 +36,7 @@ returns c =
     let x = d .args .earlier in
     let t = c .struct-told4 .given .1 in
     let p = d .pre in
+    let w = doubledBy (d .args .velocity) x in
     rw (
       toZ-ofZ {w = w64} {z = x .snap2} (record { sfits = t .0 .1 }),
       toZ-ofZ {w = w64} {z = x .jerk1} (record { sfits = t .1 .0 .1 }),
@@ -42,10 +44,10 @@ returns c =
       toZ-ofZ {w = w64} {z = x .acceleration1} (record { sfits = t .1 .1 .1 .0 .1 }),
       toZ-ofZ {w = w64} {z = x .velocity1} (record { sfits = t .1 .1 .1 .1 .0 .1 }),
       toZ-ofZ {w = w64} {z = d .args .velocity} (d .fits .velocity),
-      toZ-ofZ (within-53 _ (p .d2)),
-      toZ-ofZ (within-53 _ (p .j2)),
-      toZ-ofZ (within-53 _ (p .a2)),
-      toZ-ofZ (within-53 _ (p .v2)),
+      toZ-ofZ {w = w64} {z = w .d2} (within-53 _ (p .d2)),
+      toZ-ofZ {w = w64} {z = w .j2} (within-53 _ (p .j2)),
+      toZ-ofZ {w = w64} {z = w .a2} (within-53 _ (p .a2)),
+      toZ-ofZ {w = w64} {z = w .v2} (within-53 _ (p .v2)),
     )
     refl
 

@@ -1,6 +1,7 @@
 -- `u_of` meets its contract: each cast is exact, and the operations stand in the order of the rule. Assumes nothing.
 use mathlib.Core.Path.{refl}
 use lib.Ieee.{ofBits}
+use mir.Syntax.{w64}
 use mir.Facts.{toZ-ofZ}
 use Rattle.motion.specs.ForceRows.Doubled.{cast}
 use Rattle.motion.specs.ForceRows.Formula.{weightedSum}
@@ -28,8 +29,16 @@ int-to-float-result-4 c =
 returns : tie.Need-returns
 unfolding ofBits cast weightedSum uBy
 returns c =
-    let p = c .before .before .before .before .before .before .before .before .before .before .before .before .pre in
-    rw (toZ-ofZ (within-53 _ (p .d2)), toZ-ofZ (within-53 _ (p .j2)), toZ-ofZ (within-53 _ (p .a2)), toZ-ofZ (within-53 _ (p .v2))) refl
+    let d = c .before .before .before .before .before .before .before .before .before .before .before .before in
+    let p = d .pre in
+    let w = d .args .w in
+    rw (
+      toZ-ofZ {w = w64} {z = w .d2} (within-53 _ (p .d2)),
+      toZ-ofZ {w = w64} {z = w .j2} (within-53 _ (p .j2)),
+      toZ-ofZ {w = w64} {z = w .a2} (within-53 _ (p .a2)),
+      toZ-ofZ {w = w64} {z = w .v2} (within-53 _ (p .v2)),
+    )
+    refl
 
 pub u-of-spec : {M : Type 1} → statement M
 u-of-spec =
