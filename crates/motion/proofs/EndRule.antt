@@ -1,18 +1,17 @@
 -- Document 01, demand 3, "The end", for the numbers of a plan. Assumes nothing.
-use mathlib.Core.Path.{_≡_, ap, _∙_}
+use mathlib.Core.Path.{_≡_, ap}
 use Prim.Native.Nat.{ℕ, suc, _+_, _-_, _*_, _<_, _^_}
 use native.Mathlib.Nat.{le-trans, le-refl}
 use native.Mathlib.Omega.{arith}
 use lib.IntN.{ℤ, pos, negsuc}
 use Rattle.planner.specs.Quantities.{distance}
 use Rattle.planner.specs.Durations.{N, P}
-use Rattle.profile.specs.Facts.{AtEnd}
 use Rattle.motion.proofs.KeptRules.{Keeps}
 use Rattle.motion.proofs.OrderedLaws.{at-end}
 use Rattle.motion.specs.Direction as direction
 use Rattle.motion.specs.Direction.{along}
 use Rattle.motion.specs.Count.{IsCount}
-use Rattle.motion.proofs.DirectionLaws.{along-zero}
+use Rattle.motion.proofs.RestLaws as rest
 use Rattle.motion.proofs.CountLaws.{mirrored, count-positive}
 
 -- a position that lacks less than half a count of X counts
@@ -22,30 +21,26 @@ near-end (pos i) n lack h l = count-positive n i (omega arith) (λ t. omega arit
 near-end (negsuc i) n lack h l = mirrored (pos n) (pos (suc i)) (count-positive n (suc i) (omega arith) (λ t. omega arith))
 
 module _ {X : ℤ} {V₀ A₀ J₀ S₀ a b c e D short : ℕ} (f : Keeps X V₀ A₀ J₀ S₀ a b c e D short) where
+  abbrev last : ℕ
+  last = N a b c e
+
   -- at the end all but the position are 0
-  end : AtEnd a b c e D (N a b c e)
-  end = at-end (f .ordered) D (N a b c e) (le-refl (N a b c e))
+  pub snap-end : direction.snap X a b c e D last ≡ pos 0
+  snap-end = rest.snap-rests X (f .ordered) D last (le-refl last)
 
-  pub snap-end : direction.snap X a b c e D (N a b c e) ≡ pos 0
-  unfolding direction.snap
-  snap-end = ap (along X) (end .snap-rests) ∙ along-zero X
+  pub jerk-end : direction.jerk X a b c e D last ≡ pos 0
+  jerk-end = rest.jerk-rests X (f .ordered) D last (le-refl last)
 
-  pub jerk-end : direction.jerk X a b c e D (N a b c e) ≡ pos 0
-  unfolding direction.jerk
-  jerk-end = ap (along X) (end .jerk-rests) ∙ along-zero X
+  pub acceleration-end : direction.acceleration X a b c e D last ≡ pos 0
+  acceleration-end = rest.acceleration-rests X (f .ordered) D last (le-refl last)
 
-  pub acceleration-end : direction.acceleration X a b c e D (N a b c e) ≡ pos 0
-  unfolding direction.acceleration
-  acceleration-end = ap (along X) (end .acceleration-rests) ∙ along-zero X
+  pub velocity-end : direction.velocity X a b c e D last ≡ pos 0
+  velocity-end = rest.velocity-rests X (f .ordered) D last (le-refl last)
 
-  pub velocity-end : direction.velocity X a b c e D (N a b c e) ≡ pos 0
-  unfolding direction.velocity
-  velocity-end = ap (along X) (end .velocity-rests) ∙ along-zero X
-
-  position-end : direction.position X a b c e D (N a b c e) ≡ along X (pos (D * P a b c e))
+  position-end : direction.position X a b c e D last ≡ along X (pos (D * P a b c e))
   unfolding direction.position
-  position-end = ap (along X) (end .position-full)
+  position-end = ap (along X) (at-end (f .ordered) D last (le-refl last) .position-full)
 
   -- and its count is X
-  pub count-end : IsCount (direction.position X a b c e D (N a b c e)) X
+  pub count-end : IsCount (direction.position X a b c e D last) X
   count-end = rw position-end (near-end X (D * P a b c e) short (f .whole) (le-trans (f .short-below) (f .product-most)))

@@ -1,13 +1,15 @@
--- Sizes, differences and the order of signed numbers. Assumes nothing.
+-- Sizes, differences, the order and the range of signed numbers. Assumes nothing.
 use mathlib.Core.Bool.{Bool, true, false, cond}
 use mathlib.Core.Path.{_≡_, refl, sym, ap, _∙_}
-use Prim.Native.Nat.{ℕ, zero, suc, _+_, _-_, _*_, _≤_, _<_, zero-le}
+use Prim.Native.Nat.{ℕ, zero, suc, _+_, _-_, _*_, _^_, _≤_, _<_, zero-le}
 use native.Mathlib.Nat.{mul-zero, le-refl}
 use native.Mathlib.Omega.{arith}
 use borrow.Author.Tests.{ltb-true, ltb-false, le-ltb}
 use lib.Dec.{ltb, le→leb, lt→ltb}
 use lib.IntN.{ℤ, pos, negsuc, negℤ, natAbs, _+ℤ_, _-ℤ_, _*ℤ_, negℤ-+ℤ, negℤ-negℤ, +ℤ-comm}
 use lib.Signed.{_≤ℤ_, _<ℤ_}
+use mir.Syntax.{w64}
+use mir.Val.{SFits}
 
 pub size-negated : (x : ℤ) → natAbs (negℤ x) ≡ natAbs x
 size-negated (pos zero) = refl
@@ -55,3 +57,8 @@ not-below-zero n = record { le = le→leb 0 n zero-le }
 
 pub pos-below : (m n : ℕ) → m < n → pos m <ℤ pos n
 pos-below m n h = record { lt = lt→ltb m n h }
+
+-- what is at most 2^60 in size fits an i64
+pub small-fits : (x : ℤ) → natAbs x ≤ 2 ^ 60 → SFits w64 x
+small-fits (pos n) h = record { sfits = omega arith }
+small-fits (negsuc n) h = record { sfits = omega arith }

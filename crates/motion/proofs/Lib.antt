@@ -5,6 +5,7 @@ pub mod CountLaws
 pub mod RoundingLaws
 -- The snap at a sample, the sums from rest, and that none leaves its range.
 pub mod OrderedLaws
+pub mod RestLaws
 pub mod InnerSampleLaws
 pub mod DirectedSnap
 pub mod StepLaws

@@ -19,7 +19,7 @@ use Rattle.motion.specs.declared.state.State.{State}
 use Rattle.motion.specs.Inner.Steps.{StepFits, stateAt}
 use Rattle.motion.specs.Inner.Planned.{WithinRange}
 use Rattle.motion.proofs.OrderedLaws.{spread, at}
-use Rattle.motion.proofs.IntegerLaws.{size-negated}
+use Rattle.motion.proofs.IntegerLaws.{size-negated, small-fits}
 use Rattle.profile.proofs.SumLaws.{sums-negated}
 
 -- the direction, on sums and sizes
@@ -32,10 +32,6 @@ pub size-along : (X x : ℤ) → natAbs (along X x) ≡ natAbs x
 unfolding along
 size-along (pos m) x = refl
 size-along (negsuc m) x = size-negated x
-
-small : (x : ℤ) → natAbs x ≤ 2 ^ 60 → SFits w64 x
-small (pos n) h = record { sfits = omega arith }
-small (negsuc n) h = record { sfits = omega arith }
 
 -- the profile's sums in the direction of X
 abbrev pub directed : ℤ → (a b c e D k : ℕ) → State
@@ -99,7 +95,7 @@ module _ (X : ℤ) (a b c e D : ℕ) (h : WithinRange a b c e D) where
   velocity-slow k = rw (size-is 3 k) (slow _ [] (c ∷ b ∷ []) refl (at (h .ordered) D k .velocity-size))
 
   fits : (n k : ℕ) → natAbs (sums n (plain X a b c e D) k) ≤ 2 ^ 60 → SFits w64 (sums n (direction.snap X a b c e D) k)
-  fits n k l = small _ (rw (size-is n k) l)
+  fits n k l = small-fits _ (rw (size-is n k) l)
 
   pub step-fits : (k : ℕ) → k ≤ 2 ^ 60 → StepFits (stateAt (direction.snap X a b c e D) k) (direction.snap X a b c e D k)
   unfolding product sum sums profile.jerk profile.acceleration profile.velocity profile.position

@@ -1,17 +1,14 @@
 -- A machine in range: how large its numbers and u can be. Assumes nothing.
-use mathlib.Core.Bool.{Bool, true, false, _&&_}
-use mathlib.Core.Path.{_≡_, sym, subst}
 use Prim.Native.Nat.{ℕ}
 use lib.Dec.{T}
 use lib.IntN.{ℤ}
 use lib.Ieee.{Float, lt, eq, le}
-use lib.Ieee.Fits.{and-l, and-r}
-use lib.Ieee.Scale.{finite}
-use Rattle.motion.specs.ForceRows.Machine.{Machine, plusZero, most, leastStiffness, inRange, machineInRange}
+use Rattle.motion.specs.ForceRows.Machine.{Machine, plusZero, most, leastStiffness, inRange}
 use Rattle.motion.specs.ForceRows.Doubled.{Doubled, cast}
 use Rattle.motion.specs.ForceRows.Formula.{sumInU, q1, q2, q3, q4, weightedSum}
 use Rattle.motion.specs.ForceRows.Force.{half, u}
 use Rattle.motion.specs.Inner.Rows.{Castable}
+use Rattle.motion.proofs.ForceRows.MachineLaws.{InRange, range-parts}
 use Rattle.motion.proofs.ForceRows.SizeLaws.{_⪯_, ⪯-of-le, ⪯-closed, bound}
 use Rattle.motion.proofs.ForceRows.BoundedFloats.{cast-bound, sum-bound, product-bound}
 
@@ -26,38 +23,22 @@ pub record BoundedMachine (m : Machine Float) : Type 0 where
   pub from-zero : T (le plusZero (m .k12))
   pub stiff : leastStiffness ⪯ m .c
 
-in-range : (x : Float) → T (inRange x) → T (le plusZero x) × (x ⪯ bound 1 20)
-unfolding inRange
-in-range x h =
-    let both = and-l (finite x && le plusZero x) (le x most) h in
-    let z = and-r (finite x) (le plusZero x) both in
-    (z, ⪯-of-le x most z (and-r (finite x && le plusZero x) (le x most) h) tt)
+bounded : (x : Float) → T (inRange x) → x ⪯ bound 1 20
+bounded x h = let r = range-parts x h in ⪯-of-le x most (r .0) (r .1) tt
 
-each : (a b c d e f g : Bool) → T (a && b && c && d && e && f && g) → T a × T b × T c × T d × T e × T f × T g
-each true true true true true true g h = (tt, tt, tt, tt, tt, tt, h)
-each true true true true true false g h = absurd h
-each true true true true false f g h = absurd h
-each true true true false e f g h = absurd h
-each true true false d e f g h = absurd h
-each true false c d e f g h = absurd h
-each false b c d e f g h = absurd h
-
-pub bounded-machine : (m : Machine Float) → machineInRange m ≡ true → BoundedMachine m
-unfolding machineInRange le lt eq
-bounded-machine m h =
-    let t =
-    each (inRange (m .m1)) (inRange (m .m2)) (inRange (m .k1)) (inRange (m .k2)) (inRange (m .k12)) (inRange (m .c))
-    (le leastStiffness (m .c)) (subst T (sym h) tt) in
-    let stiffness = in-range (m .c) (t .5) in
+pub bounded-machine : (m : Machine Float) → InRange m → BoundedMachine m
+unfolding le lt eq
+bounded-machine m r =
+    let stiffness = bounded (m .c) (r .c) in
     record {
-      m1 = in-range (m .m1) (t .0) .1;
-      m2 = in-range (m .m2) (t .1) .1;
-      k1 = in-range (m .k1) (t .2) .1;
-      k2 = in-range (m .k2) (t .3) .1;
-      k12 = in-range (m .k12) (t .4) .1;
-      c = stiffness .1;
-      from-zero = in-range (m .k12) (t .4) .0;
-      stiff = ⪯-of-le leastStiffness (m .c) tt (t .6) (stiffness .1 .is-finite);
+      m1 = bounded (m .m1) (r .m1);
+      m2 = bounded (m .m2) (r .m2);
+      k1 = bounded (m .k1) (r .k1);
+      k2 = bounded (m .k2) (r .k2);
+      k12 = bounded (m .k12) (r .k12);
+      c = stiffness;
+      from-zero = range-parts (m .k12) (r .k12) .0;
+      stiff = ⪯-of-le leastStiffness (m .c) tt (r .stiff) (stiffness .is-finite);
     }
 
 -- q1 to q4 are at most 1, 4, 5 and 2 times 2^40, and the cast numbers at most 2^53

@@ -6,10 +6,10 @@ use lib.IntN.{ℤ, pos, negsuc, natAbs}
 use lib.Ieee.{binary64, inFloat}
 use mir.Syntax.{w64}
 use mir.Val.{SFits}
+use Rattle.motion.proofs.IntegerLaws.{small-fits}
 
 pub within-53 : (z : ℤ) → natAbs z ≤ 2 ^ 53 → SFits w64 z
-within-53 (pos n) h = record { sfits = omega arith }
-within-53 (negsuc n) h = record { sfits = omega arith }
+within-53 z h = small-fits z (omega arith)
 
 pub in-float : (z : ℤ) → natAbs z ≤ 2 ^ 53 → T (inFloat binary64 z)
 unfolding inFloat

@@ -1,6 +1,6 @@
 -- The doubled numbers of a plan's rows: after the last sample there is nothing to cut off, and no cast loses anything. Assumes nothing.
 use mathlib.Core.Bool.{Bool, true, false, not, cond}
-use mathlib.Core.Path.{_≡_, refl, sym, ap, _∙_, fun-ext}
+use mathlib.Core.Path.{_≡_, refl, sym, fun-ext}
 use Prim.Native.Nat.{ℕ, zero, suc, _+_, _≤_, _^_, zero-le}
 use native.Mathlib.Nat.{le-of-lt}
 use native.Mathlib.Omega.{arith}
@@ -8,16 +8,13 @@ use lib.Dec.{T, leb, nleb→lt}
 use lib.IntN.{ℤ, pos, natAbs, _+ℤ_, _*ℤ_}
 use Rattle.planner.specs.Durations.{N}
 use Rattle.profile.specs.Sums.{sums}
-use Rattle.profile.specs.Facts.{AtEnd}
 use Rattle.motion.specs.Inner.Rows.{Castable}
 use Rattle.motion.specs.Direction as direction
-use Rattle.motion.specs.Direction.{along}
 use Rattle.motion.specs.ForceRows.Doubled.{Doubled, earlier, upTo, doubled}
 use Rattle.motion.specs.Inner.Steps.{stateAt}
 use Rattle.motion.specs.Inner.Planned.{WithinRange, plannedNumbers}
 use Rattle.motion.proofs.IntegerLaws.{size-sum, size-doubled}
-use Rattle.motion.proofs.DirectionLaws.{along-zero}
-use Rattle.motion.proofs.OrderedLaws.{at-end}
+use Rattle.motion.proofs.RestLaws as rest
 use Rattle.motion.proofs.StateLaws.{directed, state-is, snap-slow, jerk-slow, acceleration-slow, velocity-slow}
 
 -- a value that is 0 after N anyway
@@ -49,21 +46,18 @@ module _ (X : ℤ) (a b c e D : ℕ) (h : WithinRange a b c e D) where
   abbrev pub summedNumbers : ℕ → Doubled ℤ
   summedNumbers = doubled snap (sums 1 snap) (sums 2 snap) (sums 3 snap)
 
-  rests : (k : ℕ) → N a b c e ≤ k → AtEnd a b c e D k
-  rests k l = at-end (h .ordered) D k l
-
   by-sums : (k : ℕ) → directed X a b c e D k ≡ stateAt snap k
   by-sums k = sym (state-is X a b c e D k)
 
   pub numbers-are : plannedNumbers X a b c e D ≡ summedNumbers
-  unfolding direction.snap direction.jerk direction.acceleration direction.velocity
   numbers-are =
       let n = N a b c e in
+      let o = h .ordered in
       rw (
-        cut n (direction.snap X a b c e D) (λ k l. ap (along X) (rests k l .snap-rests) ∙ along-zero X),
-        cut n (direction.jerk X a b c e D) (λ k l. ap (along X) (rests k l .jerk-rests) ∙ along-zero X),
-        cut n (direction.acceleration X a b c e D) (λ k l. ap (along X) (rests k l .acceleration-rests) ∙ along-zero X),
-        cut n (direction.velocity X a b c e D) (λ k l. ap (along X) (rests k l .velocity-rests) ∙ along-zero X),
+        cut n (direction.snap X a b c e D) (rest.snap-rests X o D),
+        cut n (direction.jerk X a b c e D) (rest.jerk-rests X o D),
+        cut n (direction.acceleration X a b c e D) (rest.acceleration-rests X o D),
+        cut n (direction.velocity X a b c e D) (rest.velocity-rests X o D),
       )
       (λ i. doubled snap (λ k. by-sums k i .jerk) (λ k. by-sums k i .acceleration) (λ k. by-sums k i .velocity))
 

@@ -79,15 +79,15 @@ three true true r h = (tt, tt, h)
 three true false r h = absurd h
 three false q r h = absurd h
 
-within-53 : (t : Made) → T (within t) → Within53 t
+all-within : (t : Made) → T (within t) → Within53 t
 unfolding within Within53
-within-53 (leaf x z) h = tt
-within-53 (sumOf s t) h =
+all-within (leaf x z) h = tt
+all-within (sumOf s t) h =
     let parts = three (within s) (within t) (leb (natAbs (inWholes s +ℤ inWholes t)) (2 ^ 53)) h in
-    (within-53 s (parts .0), within-53 t (parts .1), leb→le _ _ (parts .2))
-within-53 (productOf s t) h =
+    (all-within s (parts .0), all-within t (parts .1), leb→le _ _ (parts .2))
+all-within (productOf s t) h =
     let parts = three (within s) (within t) (leb (natAbs (inWholes s *ℤ inWholes t)) (2 ^ 53)) h in
-    (within-53 s (parts .0), within-53 t (parts .1), leb→le _ _ (parts .2))
+    (all-within s (parts .0), all-within t (parts .1), leb→le _ _ (parts .2))
 
 allBelow : (ℕ → Bool) → ℕ → Bool
 allBelow f zero = true
@@ -114,7 +114,7 @@ rows-within : (k : ℕ) → k < 10 → Within53 (madeU machine whole (rowNumbers
 unfolding computed
 rows-within k l =
     subst (λ (w : ℕ → Doubled ℤ). Within53 (madeU machine whole (w k))) (numbers-are plan)
-    (within-53 (madeU machine whole (plannedNumbers (pos 8) 1 1 2 4 G k)) (all-below computed 10 rows k l))
+    (all-within (madeU machine whole (plannedNumbers (pos 8) 1 1 2 4 G k)) (all-below computed 10 rows k l))
 
 -- so every row of their table is the exact half-sum over c, rounded once: here the rule's own table, in ten places
 abbrev pub ten : List Float

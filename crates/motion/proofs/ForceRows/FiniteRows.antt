@@ -11,13 +11,13 @@ use lib.Ieee.Fits.{and-i}
 use lib.Ieee.Scale.{finite}
 use lib.Ieee.Positive.{own-value}
 use Rattle.motion.specs.Values as value
-use Rattle.motion.specs.ForceRows.Machine.{Machine, plusZero, machineAsRead, machineInRange}
+use Rattle.motion.specs.ForceRows.Machine.{Machine, plusZero, machineAsRead}
 use Rattle.motion.specs.ForceRows.Doubled.{Doubled}
 use Rattle.motion.specs.ForceRows.Force.{u, alpha, beta, rigid, filtered, driveOf, filteredForce, forceOf, forceRow}
 use Rattle.motion.specs.Inner.Rows.{Castable}
 use Rattle.motion.specs.ForceRows.Table.{rowNumbers, force}
 use Rattle.motion.specs.ForceRows.Claims.{FiniteClaim}
-use Rattle.motion.proofs.ForceRows.MachineLaws.{stiffness-positive}
+use Rattle.motion.proofs.ForceRows.MachineLaws.{InRange, in-range, stiffness-positive}
 use Rattle.motion.proofs.ForceRows.Theorems.{rows-castable}
 use Rattle.motion.proofs.ForceRows.SizeLaws.{_⪯_, ⪯-closed, bound, held}
 use Rattle.motion.proofs.ForceRows.BoundedFloats.{sum-bound, product-bound, quotient-bound}
@@ -50,7 +50,7 @@ module _ {alpha beta : Float} (a : alpha ⪯ bound 1 0) (b : beta ⪯ bound 1 20
       rw more at (next-bound (filtered-bound v k (omega arith)) (v (suc k)) (v k) (omega arith))
 
 -- A move has at most 4,096 samples, so at most 4,098 rows.
-module _ (m : Machine Float) (w : ℕ → Doubled ℤ) (range : machineInRange m ≡ true) (casts : (k : ℕ) → Castable (w k)) where
+module _ (m : Machine Float) (w : ℕ → Doubled ℤ) (range : InRange m) (casts : (k : ℕ) → Castable (w k)) where
   open Machine m using (k12, c)
 
   row-finite : (k : ℕ) → k < 4098 → T (finite (forceRow m w k))
@@ -74,4 +74,4 @@ module _ (m : Machine Float) (w : ℕ → Doubled ℤ) (range : machineInRange m
 pub rows-finite : FiniteClaim
 unfolding force value.N
 rows-finite X V₀ A₀ J₀ S₀ h m range k l =
-    row-finite (machineAsRead m) (rowNumbers X V₀ A₀ J₀ S₀) range (rows-castable h) k (omega (arith, h .short-enough))
+    row-finite (machineAsRead m) (rowNumbers X V₀ A₀ J₀ S₀) (in-range (machineAsRead m) range) (rows-castable h) k (omega (arith, h .short-enough))

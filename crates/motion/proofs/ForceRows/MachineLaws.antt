@@ -41,14 +41,38 @@ module _ (k12 c : Float) where
   unfolding driveOf
   is-filtered h = rw h refl
 
--- the stiffness of a machine in range is a number above 0
-last-two : (p : Bool) (x : Float) → T (p && inRange x && le leastStiffness x) → T (positive x)
-unfolding inRange
-last-two p x h =
-    let in-range = and-r p (inRange x) (and-l (p && inRange x) (le leastStiffness x) h) in
-    between leastStiffness x most tt tt (and-r (p && inRange x) (le leastStiffness x) h) (and-r (finite x && le plusZero x) (le x most) in-range)
+-- a machine in range, number by number
+pub record InRange (m : Machine Float) : Type 0 where
+  pub m1 : T (inRange (m .m1))
+  pub m2 : T (inRange (m .m2))
+  pub k1 : T (inRange (m .k1))
+  pub k2 : T (inRange (m .k2))
+  pub k12 : T (inRange (m .k12))
+  pub c : T (inRange (m .c))
+  pub stiff : T (le leastStiffness (m .c))
 
-pub stiffness-positive : (m : Machine Float) → machineInRange m ≡ true → T (positive (m .c))
+each : (a b c d e f g : Bool) → T (a && b && c && d && e && f && g) → T a × T b × T c × T d × T e × T f × T g
+each true true true true true true g h = (tt, tt, tt, tt, tt, tt, h)
+each true true true true true false g h = absurd h
+each true true true true false f g h = absurd h
+each true true true false e f g h = absurd h
+each true true false d e f g h = absurd h
+each true false c d e f g h = absurd h
+each false b c d e f g h = absurd h
+
+pub in-range : (m : Machine Float) → machineInRange m ≡ true → InRange m
 unfolding machineInRange
-stiffness-positive m h =
-    last-two (inRange (m .m1) && inRange (m .m2) && inRange (m .k1) && inRange (m .k2) && inRange (m .k12)) (m .c) (subst T (sym h) tt)
+in-range m h =
+    let t =
+    each (inRange (m .m1)) (inRange (m .m2)) (inRange (m .k1)) (inRange (m .k2)) (inRange (m .k12)) (inRange (m .c))
+    (le leastStiffness (m .c)) (subst T (sym h) tt) in
+    record { m1 = t .0; m2 = t .1; k1 = t .2; k2 = t .3; k12 = t .4; c = t .5; stiff = t .6 }
+
+-- a number in range lies between 0 and 2^20
+pub range-parts : (x : Float) → T (inRange x) → T (le plusZero x) × T (le x most)
+unfolding inRange
+range-parts x h = (and-r (finite x) (le plusZero x) (and-l (finite x && le plusZero x) (le x most) h), and-r (finite x && le plusZero x) (le x most) h)
+
+-- the stiffness of a machine in range is a number above 0
+pub stiffness-positive : (m : Machine Float) → InRange m → T (positive (m .c))
+stiffness-positive m r = between leastStiffness (m .c) most tt tt (r .stiff) (range-parts (m .c) (r .c) .1)

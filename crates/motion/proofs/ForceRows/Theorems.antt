@@ -19,7 +19,7 @@ use Rattle.motion.proofs.EntryLaws.{entered-rule, within-range, numbers
 use Rattle.motion.proofs.FillLaws.{filled-row}
 use Rattle.motion.proofs.ForceRows.DoubledLaws as doubled
 use Rattle.motion.proofs.ForceRows.WholeFloats.{cast-exact, read-whole-machine}
-use Rattle.motion.proofs.ForceRows.MachineLaws.{stiffness-positive}
+use Rattle.motion.proofs.ForceRows.MachineLaws.{in-range, stiffness-positive}
 use Rattle.motion.proofs.ForceRows.RoundedLaws.{by-form}
 use Rattle.motion.proofs.ForceRows.Exactness.{u-exact, rigid-exact}
 
@@ -54,7 +54,7 @@ unfolding FillsForce force Within53 inWholes sumInU weightedSum q1 q2 q3 q4
 rigid-row X V₀ A₀ J₀ S₀ h m whole is range rigid old new rows room filled k l within =
     let row = filled-row (entered-rule h) room (ap not range, tt) filled plusZero k l in
     let read = read-whole-machine is in
-    let c = above-zero (stiffness-positive (machineAsRead m) range) (read .c) in
+    let c = above-zero (stiffness-positive (machineAsRead m) (in-range (machineAsRead m) range)) (read .c) in
     rw row (rigid-exact (machineAsRead m) whole (rowNumbers X V₀ A₀ J₀ S₀) k read (rows-castable h k) within rigid (c .0) (c .1))
 
 -- both zeros are read alike
