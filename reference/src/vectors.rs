@@ -8,6 +8,7 @@ mod splitmix;
 mod store;
 mod table_text;
 
+use splitmix::SplitMix64;
 use std::collections::HashSet;
 use std::hash::Hash;
 use std::path::Path;
@@ -45,8 +46,17 @@ pub fn run(action: &str, kind: &str, dir: &Path) -> Result<(), Failure> {
         .map_err(|message| Failure::Message(format!("{kind} vectors: {message}")))
 }
 
-/// The list without what has stood in it before.
-fn without_repeats<T: Copy + Eq + Hash>(mut list: Vec<T>) -> Vec<T> {
+/// A list of requests that draws on random numbers.
+type Drawn<T> = fn(&mut SplitMix64) -> Vec<T>;
+
+/// The first list and then the drawn ones, none twice; always the same ones for a seed. Any seed would do: the coverage check says
+/// whether it is good enough.
+fn gathered<T: Copy + Eq + Hash>(first: Vec<T>, seed: u64, drawn: &[Drawn<T>]) -> Vec<T> {
+    let mut random = SplitMix64::new(seed);
+    let mut list = first;
+    for more in drawn {
+        list.extend(more(&mut random));
+    }
     let mut seen = HashSet::new();
     list.retain(|entry| seen.insert(*entry));
     list

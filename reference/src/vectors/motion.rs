@@ -19,25 +19,23 @@ pub use request::{Kind, Request};
 pub use text::output;
 
 use super::conditions::complete;
-use super::splitmix::SplitMix64;
-use super::{without_repeats, Files};
+use super::{gathered, Files};
 
-/// Any fixed number would do; the coverage check says whether it is good enough.
 const SEED: u64 = 4001;
 
 /// The most bytes that both files may have together.
 const MOST_BYTES: usize = 900_000;
 
-/// The requests of the vectors, none twice, always the same ones.
+/// The requests of the vectors.
 pub fn requests() -> Vec<Request> {
-    let mut random = SplitMix64::new(SEED);
-    let mut list = paper::requests();
-    list.extend(refused::requests(&mut random));
-    list.extend(short::requests(&mut random));
-    list.extend(long::requests(&mut random));
-    list.extend(halves::requests(&mut random));
-    list.extend(mixed::requests(&mut random));
-    without_repeats(list)
+    let drawn = [
+        refused::requests,
+        short::requests,
+        long::requests,
+        halves::requests,
+        mixed::requests,
+    ];
+    gathered(paper::requests(), SEED, &drawn)
 }
 
 /// Both files, or the conditions that the requests do not meet.
