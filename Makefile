@@ -1,12 +1,13 @@
-# run: plans the moves of the paper's table, and gives the samples of the first. Both stand at the head of the stored vectors.
+# run: builds `bottlerun` and runs it on a route sheet; another one is named by SHEET=FILE.
 # test: the gate.
+SHEET ?= examples/farm.sheet
+
 .PHONY: run test
 
 run:
 	@mkdir -p target
-	@rt check planner_vectors motion_vectors > target/run.log 2>&1 || { cat target/run.log; exit 1; }
-	@head -n 16 crates/planner_vectors/stdin | ./target/bin/planner_vectors
-	@head -n 1 crates/motion_vectors/stdin | ./target/bin/motion_vectors
+	@rt check bottlerun > target/run.log 2>&1 || { cat target/run.log; exit 1; }
+	@./target/bin/bottlerun < $(SHEET)
 
 test:
 	@./.ci/run

@@ -12,11 +12,13 @@ fn vectors(action: &str, kind: &str, dir: &Path) -> Output {
         .expect("the command starts")
 }
 
-/// The kinds, with the bytes of an input line and the lines of the output.
-const KINDS: [(&str, usize, usize); 3] = [
-    ("planner", 105, 3_200),
-    ("motion", 149, 6_644),
-    ("force", 273, 907),
+/// The kinds, with a place in the third line of the input and the lines of the
+/// output.
+const KINDS: [(&str, usize, usize); 4] = [
+    ("planner", 2 * 105 + 19, 3_200),
+    ("motion", 2 * 149 + 19, 6_644),
+    ("force", 2 * 273 + 19, 907),
+    ("sheet", 63 + 2, 5_407),
 ];
 
 /// Fresh vectors in a directory of this name.
@@ -52,8 +54,8 @@ fn fresh_vectors_pass_the_check() {
 
 #[test]
 fn a_changed_byte_is_found() {
-    for (kind, width, _) in KINDS {
-        let change = |bytes: &mut Vec<u8>| bytes[2 * width + 19] ^= 1;
+    for (kind, place, _) in KINDS {
+        let change = |bytes: &mut Vec<u8>| bytes[place] ^= 1;
         found(kind, "changed_byte", "stdin", 3, change);
     }
 }
@@ -79,7 +81,7 @@ fn missing_files_fail_the_check() {
 #[test]
 fn one_kind_is_not_the_other() {
     let dir = written("motion", "other_kind");
-    for kind in ["planner", "force"] {
+    for kind in ["planner", "force", "sheet"] {
         let output = vectors("check", kind, &dir);
         assert_eq!(output.status.code(), Some(1));
     }
@@ -97,7 +99,7 @@ fn wrong_words_are_a_usage_error() {
     let message = String::from_utf8_lossy(&output.stderr);
     assert_eq!(
         message,
-        "usage: vectors write|check planner|motion|force DIR\n"
+        "usage: vectors write|check planner|motion|force|sheet DIR\n"
     );
 }
 

@@ -9,8 +9,10 @@ use reference::vectors::Files;
 const WIDTH: usize = 273;
 const FIELDS: usize = 13;
 
-fn made() -> Files {
-    files().unwrap_or_else(|message| panic!("{message}"))
+/// The input and the output.
+fn made() -> [String; 2] {
+    let Files { stdin, stdout } = files().unwrap_or_else(|message| panic!("{message}"));
+    [stdin, stdout].map(|bytes| String::from_utf8(bytes).expect("it is text"))
 }
 
 /// The line that a request must be answered with.
@@ -44,7 +46,7 @@ fn answer(line: &str) -> String {
 
 #[test]
 fn every_input_line_has_13_fields_of_fixed_width() {
-    let stdin = made().stdin;
+    let [stdin, _] = made();
     assert_eq!(stdin.len() % WIDTH, 0);
     for line in stdin.as_bytes().chunks(WIDTH) {
         for field in 0..FIELDS {
@@ -57,7 +59,7 @@ fn every_input_line_has_13_fields_of_fixed_width() {
 
 #[test]
 fn the_output_is_what_the_input_asks_for() {
-    let Files { stdin, stdout } = made();
+    let [stdin, stdout] = made();
     let expected: Vec<String> = stdin.lines().map(answer).collect();
     let lines: Vec<&str> = stdout.lines().collect();
     assert_eq!(lines, expected);
@@ -65,7 +67,7 @@ fn the_output_is_what_the_input_asks_for() {
 
 #[test]
 fn the_forces_of_the_paper_come_first() {
-    let Files { stdin, stdout } = made();
+    let [stdin, stdout] = made();
     let g = 1_u64 << 40;
     for (line, k12) in [0.0_f64, 0.5].into_iter().enumerate() {
         let [two, one] = [2.0_f64, 1.0].map(f64::to_bits);
@@ -85,7 +87,7 @@ fn the_forces_of_the_paper_come_first() {
 
 #[test]
 fn the_files_are_not_too_large() {
-    let Files { stdin, stdout } = made();
+    let [stdin, stdout] = made();
     let bytes = stdin.len() + stdout.len();
     assert!((400_000..=700_000).contains(&bytes), "{bytes} bytes");
 }

@@ -8,8 +8,10 @@ use reference::vectors::Files;
 const WIDTH: usize = 149;
 const G: i64 = 1 << 40;
 
-fn made() -> Files {
-    files().unwrap_or_else(|message| panic!("{message}"))
+/// The input and the output.
+fn made() -> [String; 2] {
+    let Files { stdin, stdout } = files().unwrap_or_else(|message| panic!("{message}"));
+    [stdin, stdout].map(|bytes| String::from_utf8(bytes).expect("it is text"))
 }
 
 /// A request: its letter, the move, and n and m.
@@ -66,7 +68,7 @@ fn table_line(letter: char, motion: &Move, n: u64, m: u64) -> String {
 
 #[test]
 fn every_input_line_has_a_letter_and_seven_fields_of_fixed_width() {
-    let stdin = made().stdin;
+    let [stdin, _] = made();
     assert_eq!(stdin.len() % WIDTH, 0);
     for line in stdin.as_bytes().chunks(WIDTH) {
         assert!(b"spr".contains(&line[0]));
@@ -80,7 +82,7 @@ fn every_input_line_has_a_letter_and_seven_fields_of_fixed_width() {
 
 #[test]
 fn the_output_is_what_the_input_asks_for() {
-    let Files { stdin, stdout } = made();
+    let [stdin, stdout] = made();
     let mut lines = stdout.lines();
     for line in stdin.lines() {
         let (letter, motion, n, m) = parsed(line);
@@ -98,7 +100,7 @@ fn the_output_is_what_the_input_asks_for() {
 
 #[test]
 fn the_lists_of_the_paper_come_first() {
-    let Files { stdin, stdout } = made();
+    let [stdin, stdout] = made();
     let g = G as u64;
     let first_row = Move {
         displacement: 8,
@@ -119,7 +121,7 @@ fn the_lists_of_the_paper_come_first() {
 
 #[test]
 fn the_files_are_not_too_large() {
-    let Files { stdin, stdout } = made();
+    let [stdin, stdout] = made();
     let bytes = stdin.len() + stdout.len();
     assert!((600_000..=900_000).contains(&bytes), "{bytes} bytes");
 }

@@ -1,12 +1,12 @@
 -- Document 01, demand 3, "Bound rules" and "Never turning back", for the numbers of a plan. Assumes nothing.
-use Prim.Native.Nat.{ℕ, zero, suc, _-_, _≤_, _<_}
+use Prim.Native.Nat.{ℕ, zero, suc, _≤_}
 use native.Mathlib.Nat.{le-trans, not-suc-le-zero}
 use lib.Dec.{ltb→lt}
 use lib.IntN.{ℤ, pos, negsuc, negℤ, natAbs}
 use lib.Signed.{_≤ℤ_, _<ℤ_}
 use Rattle.profile.specs.Profile as profile
 use Rattle.motion.specs.Direction as direction
-use Rattle.motion.specs.Direction.{along}
+use Rattle.planner.specs.Direction.{along}
 use Rattle.motion.proofs.KeptRules.{Keeps}
 use Rattle.motion.proofs.OrderedLaws.{at}
 use Rattle.motion.proofs.StateLaws.{size-along}

@@ -12,7 +12,7 @@ use Rattle.profile.proofs.SwitchedLaws.{snap-by-negated, snap-by-widths}
 use Rattle.profile.proofs.FourthOrder.{fifteen}
 use Rattle.motion.proofs.OrderedLaws.{spread}
 use Rattle.motion.specs.Direction as direction
-use Rattle.motion.specs.Direction.{along}
+use Rattle.planner.specs.Direction.{along}
 use Rattle.motion.specs.declared.snap.Levels.{Levels}
 use Rattle.motion.specs.Inner.SnapLevels.{AreLevels}
 

@@ -1,6 +1,6 @@
 -- Document 01, demand 3, "The end", for the numbers of a plan. Assumes nothing.
 use mathlib.Core.Path.{_≡_, ap}
-use Prim.Native.Nat.{ℕ, suc, _+_, _-_, _*_, _<_, _^_}
+use Prim.Native.Nat.{ℕ, suc, _+_, _*_, _<_, _^_}
 use native.Mathlib.Nat.{le-trans, le-refl}
 use native.Mathlib.Omega.{arith}
 use lib.IntN.{ℤ, pos, negsuc}
@@ -9,7 +9,7 @@ use Rattle.planner.specs.Durations.{N, P}
 use Rattle.motion.proofs.KeptRules.{Keeps}
 use Rattle.motion.proofs.OrderedLaws.{at-end}
 use Rattle.motion.specs.Direction as direction
-use Rattle.motion.specs.Direction.{along}
+use Rattle.planner.specs.Direction.{along}
 use Rattle.motion.specs.Count.{IsCount}
 use Rattle.motion.proofs.RestLaws as rest
 use Rattle.motion.proofs.CountLaws.{mirrored, count-positive}

@@ -1,7 +1,7 @@
 -- Document 01, demand 3, "Half-count rule", for the numbers of a plan. Assumes nothing.
 use mathlib.Core.Path.{_≡_, refl, ap, _∙_}
 use mathlib.Core.List.{[], _∷_}
-use Prim.Native.Nat.{ℕ, _+_, _-_, _*_, _<_, _^_}
+use Prim.Native.Nat.{ℕ, _+_, _*_, _<_, _^_}
 use native.Mathlib.Nat.{not-suc-le-zero}
 use native.Mathlib.Omega.{arith}
 use lib.Dec.{ltb→lt}
@@ -11,7 +11,7 @@ use Rattle.planner.specs.Quantities.{distance, unitsPerCount}
 use Rattle.planner.specs.Durations.{P}
 use Rattle.profile.specs.Widths.{ramp}
 use Rattle.motion.specs.Direction as direction
-use Rattle.motion.specs.Direction.{along}
+use Rattle.planner.specs.Direction.{along}
 use Rattle.motion.proofs.IntegerLaws.{multiple-negated, difference, swapped-difference}
 use Rattle.profile.specs.Widths.{product}
 use Rattle.profile.proofs.HalfCountLaw.{exact-ramp, behind-half}

@@ -1,6 +1,5 @@
 -- Signed numbers, and the count of a position.
 pub mod IntegerLaws
-pub mod DirectionLaws
 pub mod CountLaws
 pub mod RoundingLaws
 -- The snap at a sample, the sums from rest, and that none leaves its range.

@@ -7,7 +7,7 @@ use lib.IntN.{ℤ, pos, negsuc, negℤ}
 use lib.ListN.{length, replicate, length-append, length-replicate}
 use Rattle.profile.specs.Segments.{level, Sign, positive, none, negative, Segment, segment, signed, snapIn}
 use Rattle.profile.proofs.Lookup.{samples, snap-first, snap-next}
-use Rattle.motion.specs.Direction.{along}
+use Rattle.planner.specs.Direction.{along}
 use Rattle.motion.specs.Inner.SegmentSnaps.{snapsOf}
 
 -- the list holds what f gives from k on

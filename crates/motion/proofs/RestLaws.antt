@@ -6,8 +6,8 @@ use Rattle.planner.specs.Durations.{N}
 use Rattle.planner.specs.Facts.{Ordered}
 use Rattle.profile.specs.Facts.{AtEnd}
 use Rattle.motion.specs.Direction as direction
-use Rattle.motion.specs.Direction.{along}
-use Rattle.motion.proofs.DirectionLaws.{along-zero}
+use Rattle.planner.specs.Direction.{along}
+use Rattle.planner.proofs.DirectionLaws.{along-zero}
 use Rattle.motion.proofs.OrderedLaws.{at-end}
 
 module _ (X : ℤ) {a b c e : ℕ} (o : Ordered a b c e) (D k : ℕ) (l : N a b c e ≤ k) where

@@ -2,7 +2,7 @@
 -- Assumes nothing.
 use mathlib.Core.List.{List, [], _∷_, _++_}
 use mathlib.Core.Path.{_≡_, refl, ap, subst, _∙_}
-use Prim.Native.Nat.{ℕ, suc, _-_, _*_, _≤_, _^_}
+use Prim.Native.Nat.{ℕ, suc, _*_, _≤_, _^_}
 use native.Mathlib.Nat.{le-trans, mul-le-mul-left, mul-one}
 use native.Mathlib.Omega.{arith}
 use lib.IntN.{ℤ, pos, negsuc, natAbs}
@@ -14,7 +14,7 @@ use Rattle.profile.specs.Profile as profile
 use Rattle.profile.specs.Widths.{product, Spread}
 use Rattle.profile.proofs.ProductLaws.{product-grows}
 use Rattle.motion.specs.Direction as direction
-use Rattle.motion.specs.Direction.{along}
+use Rattle.planner.specs.Direction.{along}
 use Rattle.motion.specs.declared.state.State.{State}
 use Rattle.motion.specs.Inner.Steps.{StepFits, stateAt}
 use Rattle.motion.specs.Inner.Planned.{WithinRange}

@@ -1,13 +1,13 @@
 -- Document 01, demand 3, "Sums from rest", in the direction of X. Assumes nothing.
 use mathlib.Core.Path.{_≡_, refl, ap, _∙_}
-use Prim.Native.Nat.{ℕ, _+_, _-_}
+use Prim.Native.Nat.{ℕ, _+_}
 use native.Mathlib.Numerals.{add-one}
 use lib.IntN.{ℤ, pos, negsuc, _+ℤ_, negℤ-+ℤ}
 use Rattle.profile.specs.Sums.{sum}
 use Rattle.profile.specs.Profile as profile
 use Rattle.motion.specs.Direction as direction
-use Rattle.motion.specs.Direction.{along}
-use Rattle.motion.proofs.DirectionLaws.{along-zero}
+use Rattle.planner.specs.Direction.{along}
+use Rattle.planner.proofs.DirectionLaws.{along-zero}
 
 -- the direction, on sums
 along-sum : (X x y : ℤ) → along X (x +ℤ y) ≡ along X x +ℤ along X y

@@ -13,7 +13,7 @@ use Rattle.profile.proofs.Lookup.{samples, samples-append, snap-rested}
 use Rattle.profile.proofs.SwitchedLaws.{samples-switched}
 use Rattle.profile.proofs.FourthOrder.{fifteen}
 use Rattle.motion.specs.Direction as direction
-use Rattle.motion.specs.Direction.{along}
+use Rattle.planner.specs.Direction.{along}
 use Rattle.motion.specs.Tables.{rowsFrom}
 use Rattle.motion.specs.Inner.Runs.{Writer, CanRun, Ran}
 use Rattle.motion.specs.Inner.SegmentSnaps.{withRest}

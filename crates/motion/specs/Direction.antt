@@ -1,12 +1,9 @@
--- Document 01, "The profile": "For a negative X every value changes sign."
+-- Document 01, "The profile": the values in the direction of X.
 use Prim.Native.Nat.{ℕ}
-use lib.IntN.{ℤ, pos, negsuc, negℤ}
+use lib.IntN.{ℤ}
+use Rattle.planner.specs.Direction.{along}
 use Rattle.planner.specs.Durations.{p, q, r, s}
 use Rattle.profile.specs.Profile as profile
-
-unfoldable pub along : (X value : ℤ) → ℤ
-along (pos n) value = value
-along (negsuc n) value = negℤ value
 
 -- The five values at sample k of the profile with the intervals a, b, c, e and a snap of size D, in the direction of X.
 module _ (X : ℤ) (a b c e D k : ℕ) where

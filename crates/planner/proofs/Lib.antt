@@ -6,7 +6,9 @@ pub mod ReachLaws
 pub mod Forms
 pub mod CapLaws
 pub mod Sign
+pub mod DirectionLaws
 pub mod RefusalLaws
+pub mod RuleRefusals
 -- What the rules come to: laws of the intervals, and the theorems.
 pub mod BoundLaws
 pub mod ProductBound

@@ -1,6 +1,6 @@
 -- From "planned" to all that holds of a plan: what other crates use in place of the rules' own text. Assumes nothing.
 use mathlib.Core.Path.{_≡_, refl, subst, sym, _∙_}
-use Prim.Native.Nat.{ℕ, _+_, _-_, _*_, _/_, _≤_, _<_}
+use Prim.Native.Nat.{ℕ, zero, suc, _+_, _-_, _*_, _/_, _≤_, _<_}
 use native.Mathlib.Nat.{le-trans, mul-le-mul-left, le-max-right, min-le-left, min-le-right, div-mul-le-self, div-add-mod', mod-lt}
 use native.Mathlib.Omega.{arith}
 use borrow.Author.Tests.{leb-true}
@@ -103,3 +103,9 @@ module _ {X : ℤ} {V₀ A₀ J₀ S₀ : ℕ} where
       → r ≡ Planned x
       → PlanFacts X V₀ A₀ J₀ S₀ (x .a) (x .b) (x .c) (x .e) (x .snap) (x .shortfall)
   answer-facts h q = planned-facts (subst (λ (r : PlanAnswer). Plans X V₀ A₀ J₀ S₀ (outcome r)) q h)
+
+-- A plan's snap is not 0: the distance is at least 2^40, and P at most 2^39.
+pub snap-from-one : {X : ℤ} {V₀ A₀ J₀ S₀ a b c e D short : ℕ} → PlanFacts X V₀ A₀ J₀ S₀ a b c e D short → 0 < D
+unfolding distance
+snap-from-one {D = zero} f = absurd (omega (arith, f .whole, f .shortfall-below, f .product, f .accepted .in-range .moves))
+snap-from-one {D = suc D} f = omega arith

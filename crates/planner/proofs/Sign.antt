@@ -1,15 +1,18 @@
--- The size of a signed number, by its sign.
+-- The size of a signed number, by its sign; and a size with a minus before it, as 64 bits hold it.
 -- Assumes nothing.
 use mathlib.Core.Path.{_≡_, sym, ap}
 use mathlib.Core.Bool.{true, false, true≢false}
-use Prim.Native.Nat.{suc, _+_}
+use Prim.Native.Nat.{ℕ, zero, suc, _+_, _^_, _<_}
 use native.Mathlib.Nat.{not-suc-le-zero}
 use native.Mathlib.Numerals.{add-one}
 use native.Mathlib.Omega.{arith}
 use borrow.Author.Tests.{le-ltb, ltb-true}
-use lib.Dec.{T}
-use lib.IntN.{ℤ, pos, negsuc, natAbs, _-ℤ_}
+use lib.Dec.{T, lit<}
+use lib.IntN.{ℤ, pos, negsuc, negℤ, natAbs, _-ℤ_, +ℤ-idl}
 use lib.Signed.{mag, ltZ, nonNeg}
+use mir.Syntax.{w64}
+use mir.Val.{SFits, toZ}
+use mir.ValLaws.{toZ-pos}
 
 -- −1−x, for a negative x
 pub mirrored : (x : ℤ) → ltZ x (pos 0) ≡ true → negsuc 0 -ℤ x ≡ pos (mag x)
@@ -23,3 +26,11 @@ size-negative (negsuc n) h = sym (add-one n)
 pub not-negative : (x : ℤ) → ltZ x (pos 0) ≡ false → T (nonNeg x)
 not-negative (pos n) h = tt
 not-negative (negsuc n) h = absurd (true≢false h)
+
+pub negative-fits : (n : ℕ) → n < 2 ^ 63 → SFits w64 (negℤ (pos n))
+negative-fits zero h = record { sfits = lit< tt }
+negative-fits (suc n) h = record { sfits = omega arith }
+
+-- 0 less a size.
+pub negated : (n : ℕ) → n < 2 ^ 63 → pos 0 -ℤ toZ w64 n ≡ negℤ (pos n)
+negated n h = rw (toZ-pos w64 n h) (+ℤ-idl (negℤ (pos n)))

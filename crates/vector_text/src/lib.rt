@@ -8,6 +8,7 @@ pub use moves::read_move;
 pub use reading::Field;
 pub use reading::read_field;
 pub use tables::MOST_PLACES;
+pub use tables::bits_of;
 pub use tables::places_of;
 pub use tables::sum_with;
 pub use tables::write_table_answer;

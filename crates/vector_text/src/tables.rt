@@ -2,7 +2,9 @@
 use crate::writing::write_number;
 use crate::writing::write_refused;
 use motion::TableAnswer;
+use planner::magnitude;
 use std::num::wrapping_add_u64;
+use std::num::wrapping_sub_u64;
 ghost use Prim.Native.Nat.{_≤_};
 
 // The most places that a table of the vectors has.
@@ -26,6 +28,14 @@ pub fn sum_with(sum: u64, bits: u64) -> u64 {
     let sixteen = wrapping_add_u64(eight, eight);
     let thirty_two = wrapping_add_u64(sixteen, sixteen);
     wrapping_add_u64(wrapping_add_u64(thirty_two, sum), bits)
+}
+
+// A place as 64 bits, in two's complement.
+pub fn bits_of(place: i64) -> u64 {
+    if place < 0 {
+        return wrapping_sub_u64(0, magnitude(place));
+    }
+    magnitude(place)
 }
 
 // The answer, and the sum over the table after the call.

@@ -1,6 +1,6 @@
 //! `vectors write KIND DIR` stores the vectors made by the reference;
 //! `vectors check KIND DIR` says whether the stored ones are still the same.
-//! The kind is `planner`, `motion` or `force`.
+//! The kind is `planner`, `motion`, `force` or `sheet`.
 
 use reference::vectors::{run, Failure};
 use std::env;
@@ -13,7 +13,7 @@ fn main() -> ExitCode {
     match command(&words) {
         Ok(()) => ExitCode::SUCCESS,
         Err(Failure::Usage) => {
-            eprintln!("usage: vectors write|check planner|motion|force DIR");
+            eprintln!("usage: vectors write|check planner|motion|force|sheet DIR");
             ExitCode::from(2)
         }
         Err(Failure::Message(message)) => {

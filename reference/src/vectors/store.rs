@@ -6,18 +6,18 @@ use std::path::Path;
 
 pub fn write(dir: &Path, files: &Files) -> Result<(), String> {
     fs::create_dir_all(dir).map_err(|error| format!("{}: {error}", dir.display()))?;
-    for (name, text) in parts(files) {
+    for (name, bytes) in parts(files) {
         let path = dir.join(name);
-        fs::write(&path, text).map_err(|error| format!("{}: {error}", path.display()))?;
+        fs::write(&path, bytes).map_err(|error| format!("{}: {error}", path.display()))?;
     }
     Ok(())
 }
 
 pub fn check(dir: &Path, files: &Files) -> Result<(), String> {
-    for (name, text) in parts(files) {
+    for (name, bytes) in parts(files) {
         let path = dir.join(name);
         let stored = fs::read(&path).map_err(|error| format!("{}: {error}", path.display()))?;
-        if let Some(line) = first_difference(&stored, text.as_bytes()) {
+        if let Some(line) = first_difference(&stored, bytes) {
             let place = path.display();
             return Err(format!("{place} differs from the reference at line {line}"));
         }
@@ -25,7 +25,7 @@ pub fn check(dir: &Path, files: &Files) -> Result<(), String> {
     Ok(())
 }
 
-fn parts(files: &Files) -> [(&'static str, &str); 2] {
+fn parts(files: &Files) -> [(&'static str, &[u8]); 2] {
     [("stdin", &files.stdin), ("stdout", &files.stdout)]
 }
 

@@ -20,11 +20,14 @@ pub fn table_line<T: Display>(
         TableAnswer::Refused(number) => format!("refused {number}"),
         TableAnswer::Written(rows) => format!("rows {rows}"),
     };
-    // A number that any changed or exchanged place changes.
-    let add = |sum: u64, place: &T| sum.wrapping_mul(33).wrapping_add(bits(place));
-    let sum = table.iter().fold(0, add);
+    let sum = sum(table.iter().map(bits));
     let skipped = usize::try_from(first).unwrap_or(usize::MAX);
     let printed = table.iter().skip(skipped).take(MOST_PRINTED);
     let places: String = printed.map(|place| format!(" {place}")).collect();
     format!("{answer} sum {sum}{places}\n")
+}
+
+/// A number that any changed or exchanged place changes.
+pub fn sum(places: impl Iterator<Item = u64>) -> u64 {
+    places.fold(0, |sum, place| sum.wrapping_mul(33).wrapping_add(place))
 }

@@ -1,7 +1,7 @@
 -- The doubled numbers of a plan's rows: after the last sample there is nothing to cut off, and no cast loses anything. Assumes nothing.
 use mathlib.Core.Bool.{Bool, true, false, not, cond}
 use mathlib.Core.Path.{_≡_, refl, sym, fun-ext}
-use Prim.Native.Nat.{ℕ, zero, suc, _+_, _≤_, _^_, zero-le}
+use Prim.Native.Nat.{ℕ, zero, suc, _≤_, _^_, zero-le}
 use native.Mathlib.Nat.{le-of-lt}
 use native.Mathlib.Omega.{arith}
 use lib.Dec.{T, leb, nleb→lt}

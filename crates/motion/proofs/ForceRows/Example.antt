@@ -4,7 +4,7 @@ use mathlib.Core.Bool.{Bool, true, false, _&&_}
 use mathlib.Core.List.{List, [], _∷_}
 use mathlib.Core.Logic.{inl, inr}
 use mathlib.Core.Path.{_≡_, refl, sym, subst}
-use Prim.Native.Nat.{ℕ, zero, suc, _+_, _*_, _^_, _≤_, _<_}
+use Prim.Native.Nat.{ℕ, zero, suc, _+_, _*_, _^_, _<_}
 use native.Mathlib.Nat.{not-suc-le-zero, le-of-suc-le-suc, eq-or-lt-of-le}
 use native.Mathlib.Omega.{arith}
 use lib.Dec.{T, leb, leb→le, lit≤}
@@ -21,7 +21,7 @@ use Rattle.profile.specs.Segments.{segments, level, signed, snapIn}
 use Rattle.profile.specs.Sums.{sum}
 use Rattle.profile.specs.Profile as profile
 use Rattle.motion.specs.Direction as direction
-use Rattle.motion.specs.Direction.{along}
+use Rattle.planner.specs.Direction.{along}
 use Rattle.motion.specs.ForceRows.Machine.{Machine, plusZero, asRead, machineAsRead, inRange, machineInRange}
 use Rattle.motion.specs.ForceRows.Doubled.{Doubled, earlier, upTo, doubled}
 use Rattle.motion.specs.ForceRows.Formula.{wholes, sumInU, q1, q2, q3, q4, weightedSum}

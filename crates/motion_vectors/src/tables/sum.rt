@@ -1,6 +1,5 @@
 // A sum over all places of a table, so that no place can differ unseen.
-use planner::magnitude;
-use std::num::wrapping_sub_u64;
+use vector_text::bits_of;
 use vector_text::sum_with;
 
 pub(crate) fn sum_of(table: &[i64]) -> u64 {
@@ -11,12 +10,4 @@ pub(crate) fn sum_of(table: &[i64]) -> u64 {
         i += 1;
     }
     sum
-}
-
-// Two's complement.
-fn bits_of(place: i64) -> u64 {
-    if place < 0 {
-        return wrapping_sub_u64(0, magnitude(place));
-    }
-    magnitude(place)
 }

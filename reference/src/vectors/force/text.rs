@@ -9,10 +9,7 @@ use crate::vectors::Files;
 
 pub fn files(requests: &[Request]) -> Files {
     let line = |request: &Request| output(force_table, request);
-    Files {
-        stdin: requests.iter().map(input_line).collect(),
-        stdout: requests.iter().map(line).collect(),
-    }
+    Files::of(requests, input_line, line)
 }
 
 /// X V A J S, the bits of the machine, n and m, each 20 characters wide: every

@@ -8,10 +8,7 @@ use crate::vectors::Files;
 
 pub fn files(requests: &[Request]) -> Files {
     let lines = |request: &Request| output(&Reference, request);
-    Files {
-        stdin: requests.iter().map(input_line).collect(),
-        stdout: requests.iter().map(lines).collect(),
-    }
+    Files::of(requests, input_line, lines)
 }
 
 /// A letter for the kind, then X V A J S n m, each 20 characters wide: every

@@ -4,10 +4,7 @@ use crate::planner::{plan, Answer, Move};
 use crate::vectors::Files;
 
 pub fn files(moves: &[Move]) -> Files {
-    Files {
-        stdin: moves.iter().map(input_line).collect(),
-        stdout: moves.iter().map(output_line).collect(),
-    }
+    Files::of(moves, input_line, output_line)
 }
 
 /// X V A J S, each 20 characters wide: every line has 105 bytes, so a reader

@@ -1,14 +1,15 @@
 -- `levels_of` meets its contract: D is small enough to be taken either way. Assumes nothing.
 use borrow.Author.Needs.{needs}
 use mathlib.Core.Path.{_≡_, sym, ap, _∙_}
-use Prim.Native.Nat.{ℕ, zero, suc, _≤_, _^_}
+use Prim.Native.Nat.{ℕ, _≤_, _^_}
 use native.Mathlib.Omega.{arith}
 use mir.Syntax.{w64}
 use mir.Val.{toZ, ofZ, SFits}
 use mir.ValLaws.{toZ-pos}
 use mir.Facts.{toZ-ofZ}
-use lib.IntN.{pos, negℤ, _-ℤ_, +ℤ-idl, negℤ-negℤ}
-use Rattle.motion.proofs.DirectionLaws.{along-negative, along-positive}
+use lib.IntN.{pos, negℤ, _-ℤ_, negℤ-negℤ}
+use Rattle.planner.proofs.Sign.{negative-fits, negated}
+use Rattle.planner.proofs.DirectionLaws.{along-negative, along-positive}
 use Rattle.motion.proofs.snap.levels_of.Statement.{statement}
 use Rattle.motion.proofs.snap.levels_of.Tie as tie
 
@@ -17,18 +18,11 @@ module _ (n : ℕ) (h : n ≤ 2 ^ 60) where
   read : toZ w64 n ≡ pos n
   read = toZ-pos w64 n (omega arith)
 
-  negative-fits : (n : ℕ) → n ≤ 2 ^ 60 → SFits w64 (negℤ (pos n))
-  negative-fits zero h = record { sfits = omega arith }
-  negative-fits (suc n) h = record { sfits = omega arith }
-
-  taken : pos 0 -ℤ toZ w64 n ≡ negℤ (pos n)
-  taken = rw read (+ℤ-idl (negℤ (pos n)))
-
   taken-fits : SFits w64 (pos 0 -ℤ toZ w64 n)
-  taken-fits = rw taken (negative-fits n h)
+  taken-fits = rw (negated n (omega arith)) (negative-fits n (omega arith))
 
   read-taken : toZ w64 (ofZ w64 (pos 0 -ℤ toZ w64 n)) ≡ negℤ (pos n)
-  read-taken = toZ-ofZ taken-fits ∙ taken
+  read-taken = toZ-ofZ taken-fits ∙ negated n (omega arith)
 
 cast-snap : tie.Need-cast-snap
 cast-snap c = search needs

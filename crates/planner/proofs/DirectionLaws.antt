@@ -5,7 +5,7 @@ use native.Mathlib.Nat.{not-suc-le-zero}
 use borrow.Author.Tests.{ltb-true}
 use lib.IntN.{ℤ, pos, negsuc, negℤ}
 use lib.Signed.{ltZ}
-use Rattle.motion.specs.Direction.{along}
+use Rattle.planner.specs.Direction.{along}
 
 pub along-negative : (X value : ℤ) → ltZ X (pos 0) ≡ true → along X value ≡ negℤ value
 unfolding along

@@ -1,0 +1,42 @@
+-- `displacement::read_size` meets its contract: the size that is read, with its sign. Assumes nothing.
+use borrow.Author.Needs.{needs}
+use mir.Facts.{toZ-ofZ}
+use Rattle.route_sheet.specs.Reading.{after, thenRead}
+use Rattle.route_sheet.specs.Inner.Parts.{numberRead}
+use Rattle.route_sheet.proofs.PartLaws.{as-read, number-most}
+use Rattle.route_sheet.proofs.displacement.read_size.Statement.{statement}
+use Rattle.route_sheet.proofs.displacement.read_size.Tie as tie
+
+read-number-requires : tie.Need-read-number-requires
+read-number-requires c κs = search needs
+
+enum-known-size : tie.Need-enum-known-size
+enum-known-size c = search needs
+
+enum-told : tie.Need-enum-told
+enum-told c = search needs
+
+returns : tie.Need-returns
+unfolding thenRead
+returns c =
+    let text = c .before .before .before .before .args .text .now in
+    rw (as-read (numberRead text) (c .before .before .read-number .ensures .read-is) (c .enum-told .given .1))
+
+with-sign-requires : tie.Need-with-sign-requires
+with-sign-requires c κs = number-most (c .before .before .before .read-number .ensures) (c .before .size .given .1)
+
+returns-2 : tie.Need-returns-2
+unfolding thenRead after
+returns-2 c =
+    let text = c .before .before .before .before .before .before .args .text .now in
+    let read = c .before .before .before .before .read-number in
+    rw (
+      as-read (numberRead text) (read .ensures .read-is) (c .before .before .size .given .1),
+      toZ-ofZ (record { sfits = c .with-sign .ok }),
+      c .with-sign .ensures,
+    )
+
+pub read-size-spec : {M : Type 1} → statement M
+read-size-spec =
+    tie.close
+    (tie.spec read-number-requires enum-known-size enum-told returns with-sign-requires returns-2)

@@ -1,0 +1,101 @@
+-- `sheet::read_lines` meets its contract: the first section, and what follows it. Assumes nothing.
+use borrow.Author.Needs.{needs}
+use mathlib.Core.List.{List}
+use mathlib.Core.Path.{_≡_, ap, _∙_}
+use Prim.Native.Nat.{ℕ, _+_, _≤_}
+use native.Mathlib.Omega.{arith}
+use lib.ListN.{drop}
+use Rattle.route_sheet.specs.Text.{lineEnd}
+use Rattle.route_sheet.specs.Sheet.{mostSets}
+use Rattle.route_sheet.specs.Reading.{got, readNumber, readSections}
+use Rattle.route_sheet.specs.Answer.{heldOf}
+use Rattle.route_sheet.specs.Inner.Parts.{numberRead}
+use Rattle.route_sheet.proofs.PartLaws.{as-read, number-most}
+use Rattle.route_sheet.proofs.SheetRuns.{section-stops, no-set-count, no-sets, sets-held, first-read, result-stuck}
+use Rattle.route_sheet.proofs.sheet.read_lines.Statement.{statement}
+use Rattle.route_sheet.proofs.sheet.read_lines.Tie as tie
+
+read-number-requires : tie.Need-read-number-requires
+read-number-requires c κs = search needs
+
+enum-known-count : tie.Need-enum-known-count
+enum-known-count c = search needs
+
+enum-told : tie.Need-enum-told
+enum-told c = search needs
+
+malformed-requires : tie.Need-malformed-requires
+malformed-requires c κs = search needs
+
+returns : tie.Need-returns
+returns c =
+    let text = c .before .before .before .before .before .args .text .now in
+    let none = as-read (numberRead text) (c .before .before .before .read-number .ensures .read-is) (c .before .enum-told .given .1) in
+    c .malformed .ensures ∙ ap heldOf (result-stuck (readSections text) 0 1 (no-set-count text none) (omega arith))
+
+-- The count: what it is, and where its section begins.
+abbrev textOf : tie.After-known-told → List ℕ
+textOf c = c .before .before .before .before .before .args .text .now
+
+abbrev setCount : tie.After-known-told → ℕ
+setCount c = c .before .count .given .0 .0
+
+abbrev firstLine : tie.After-known-told → ℕ
+firstLine c = c .before .count .given .0 .1 .0
+
+counted : (c : tie.After-known-told) → readNumber 1 mostSets lineEnd (textOf c) ≡ got (setCount c) (drop (firstLine c) (textOf c))
+counted c = as-read (numberRead (textOf c)) (c .before .before .before .read-number .ensures .read-is) (c .before .count .given .1)
+
+few : (c : tie.After-known-told) → setCount c ≤ mostSets
+few c = number-most (c .before .before .before .read-number .ensures) (c .before .count .given .1)
+
+read-sets-requires : tie.Need-read-sets-requires
+read-sets-requires c κs = few c
+
+add-malformed : tie.Need-add-malformed
+add-malformed c = omega (arith, few (c .before .before .before .before))
+
+malformed-requires-2 : tie.Need-malformed-requires-2
+malformed-requires-2 c κs = search needs
+
+returns-2 : tie.Need-returns-2
+returns-2 c =
+    let d = c .before .before .before .before .before in
+    let section = c .before .before .before .before .read-sets in
+    let stops = section-stops (section .ensures) (c .before .before .if1 .taken) in
+    c .malformed2 .ensures
+    ∙ ap heldOf
+    (result-stuck (readSections (textOf d)) (1 + section .result .done) (2 + section .result .done)
+    (no-sets (textOf d) (setCount d) (drop (firstLine d) (textOf d)) (counted d) (section .result .done) stops)
+    (omega arith))
+
+read-second-requires : tie.Need-read-second-requires
+read-second-requires c κs =
+    let d = c .before .before .before in
+    let section = c .before .before .read-sets in
+    sets-held (textOf d) (setCount d) (drop (firstLine d) (textOf d)) (counted d) (section .result) (section .ensures) (few d)
+
+returns-3 : tie.Need-returns-3
+returns-3 c =
+    let e = c .before in
+    let d = e .before .before .before in
+    let section = e .before .before .read-sets in
+    let is =
+    first-read (textOf d) (setCount d) (drop (firstLine d) (textOf d)) (counted d) (section .result) (section .ensures) (e .if1 .left) in
+    rw is (c .read-second .ensures)
+
+pub read-lines-spec : {M : Type 1} → statement M
+read-lines-spec =
+    tie.close
+    (tie.spec
+    read-number-requires
+    enum-known-count
+    enum-told
+    malformed-requires
+    returns
+    read-sets-requires
+    add-malformed
+    malformed-requires-2
+    returns-2
+    read-second-requires
+    returns-3)

@@ -1,0 +1,67 @@
+// The report's bytes: texts and numbers put one after the other.
+use crate::REPORT_BYTES;
+ghost use mathlib.Core.List.{_++_};
+ghost use Rattle.route_sheet.specs.Decimal.{decimal};
+ghost use Rattle.route_sheet.specs.Report.{endOfLine};
+ghost use Rattle.route_sheet.specs.Inner.Output.{Puts, Room};
+
+// Puts `text` from offset `at` on, and answers the offset after it.
+pub(crate) fn put_text(out: &mut [u8; REPORT_BYTES], at: usize, text: &[u8]) -> usize
+    requires { ⌜ Room at (now text) ⌝ }
+    ensures { λ r. ⌜ Puts (now (out .entry)) at (now (text .entry)) r (now (out .exit)) ⌝ }
+{
+    let mut i = 0;
+    while i < text.len() {
+        out[at + i] = text[i];
+        i += 1;
+    }
+    at + i
+}
+
+// Puts the decimal of n, digit by digit as the definition has it.
+pub(crate) fn put_number(out: &mut [u8; REPORT_BYTES], at: usize, n: u64) -> usize
+    requires { ⌜ Room at (decimal n) ⌝ }
+    ensures { λ r. ⌜ Puts (now (out .entry)) at (decimal n) r (now (out .exit)) ⌝ }
+{
+    if n < 10 {
+        out[at] = b'0' + n as u8;
+        return at + 1;
+    }
+    let last = put_number(out, at, n / 10);
+    out[last] = b'0' + (n % 10) as u8;
+    last + 1
+}
+
+// Puts a word and its number.
+pub(crate) fn put_field(out: &mut [u8; REPORT_BYTES], at: usize, word: &[u8], n: u64) -> usize
+    requires { ⌜ Room at (now word ++ decimal n) ⌝ }
+    ensures { λ r. ⌜ Puts (now (out .entry)) at (now (word .entry) ++ decimal n) r (now (out .exit)) ⌝ }
+{
+    let number = put_text(out, at, word);
+    put_number(out, number, n)
+}
+
+// Puts a word and its number at the end of a line.
+pub(crate) fn put_last_field(out: &mut [u8; REPORT_BYTES], at: usize, word: &[u8], n: u64) -> usize
+    requires { ⌜ Room at ((now word ++ decimal n) ++ endOfLine) ⌝ }
+    ensures { λ r. ⌜ Puts (now (out .entry)) at ((now (word .entry) ++ decimal n) ++ endOfLine) r (now (out .exit)) ⌝ }
+{
+    let end = put_field(out, at, word, n);
+    put_text(out, end, b"\n")
+}
+
+// Puts a line of two words and their numbers.
+pub(crate) fn put_two_fields(
+    out: &mut [u8; REPORT_BYTES],
+    at: usize,
+    first: &[u8],
+    m: u64,
+    second: &[u8],
+    n: u64,
+) -> usize
+    requires { ⌜ Room at ((now first ++ decimal m) ++ ((now second ++ decimal n) ++ endOfLine)) ⌝ }
+    ensures { λ r. ⌜ Puts (now (out .entry)) at ((now (first .entry) ++ decimal m) ++ ((now (second .entry) ++ decimal n) ++ endOfLine)) r (now (out .exit)) ⌝ }
+{
+    let next = put_field(out, at, first, m);
+    put_last_field(out, next, second, n)
+}
