@@ -1,4 +1,4 @@
--- Different answers of the entries have different outcomes, so each promise leaves one answer. Assumes nothing.
+-- Different answers of the entries have different outcomes, so each promise leaves one answer.
 use mathlib.Core.List.{List}
 use mathlib.Core.Path.{_≡_, refl, sym, ap, ap₂, _∙_}
 use Prim.Native.Nat.{ℕ}
@@ -6,6 +6,7 @@ use native.Mathlib.Omega.{arith}
 use lib.IntN.{ℤ}
 use lib.Ieee.{Float}
 use Rattle.planner.specs.Outcome.{Check}
+use Rattle.planner.proofs.Clash.{clash}
 use Rattle.planner.proofs.AnswerLaws as planner
 use Rattle.motion.specs.Result.{Result, refused, given}
 use Rattle.motion.specs.Sampling.{Values, sampleWith, Samples}
@@ -43,7 +44,7 @@ number-injective MachineRange MachineRange h = refl
 
 -- a refusal is not what was asked for
 apart : {A : Type 0} (n : ℕ) (x : A) → refused n ≡ given x → ⊥
-apart n x h = let z : _≡_ {A = ℕ} 0 1 = cc in omega arith
+apart n x h = clash cc
 
 same-number : {A : Type 0} (m n : ℕ) → _≡_ {A = Result A} (refused m) (refused n) → m ≡ n
 same-number m n h = cc
@@ -76,7 +77,7 @@ table-injective (NoTable x) (NoTable y) h = ap NoTable (number-injective x y (sa
 
 -- the checked drive: different drives are of different kinds
 kinds-apart : (c alpha beta : Float) → rigid c ≡ filtered alpha beta → ⊥
-kinds-apart c alpha beta h = let z : _≡_ {A = ℕ} 0 1 = cc in omega arith
+kinds-apart c alpha beta h = clash cc
 
 same-stiffness : (x y : Float) → rigid x ≡ rigid y → x ≡ y
 same-stiffness x y h = cc
@@ -96,7 +97,11 @@ module _ {X : ℤ} {V₀ A₀ J₀ S₀ k : ℕ} where
   one-outcome h l =
       h .outcome-is ∙ ap (sampleWith X V₀ A₀ J₀ S₀ k) (one-count _ _ _ (h .count-is) (l .count-is)) ∙ sym (l .outcome-is)
 
-  pub one-sample-answer : (x y : SampleAnswer) → Samples X V₀ A₀ J₀ S₀ k (sampleOutcome x) → Samples X V₀ A₀ J₀ S₀ k (sampleOutcome y) → x ≡ y
+  pub one-sample-answer :
+      (x y : SampleAnswer)
+      → Samples X V₀ A₀ J₀ S₀ k (sampleOutcome x)
+      → Samples X V₀ A₀ J₀ S₀ k (sampleOutcome y)
+      → x ≡ y
   one-sample-answer x y h l = sample-injective x y (one-outcome h l)
 
 pub one-table-answer :

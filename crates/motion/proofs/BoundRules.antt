@@ -1,31 +1,13 @@
--- Document 01, demand 3, "Bound rules" and "Never turning back", for the numbers of a plan. Assumes nothing.
-use Prim.Native.Nat.{ℕ, zero, suc, _≤_}
-use native.Mathlib.Nat.{le-trans, not-suc-le-zero}
-use lib.Dec.{ltb→lt}
-use lib.IntN.{ℤ, pos, negsuc, negℤ, natAbs}
+-- Document 01, demand 3, "Bound rules" and "Never turning back", for the numbers of a plan.
+use Prim.Native.Nat.{ℕ, _≤_}
+use native.Mathlib.Nat.{le-trans}
+use lib.IntN.{ℤ, pos, natAbs}
 use lib.Signed.{_≤ℤ_, _<ℤ_}
+use Rattle.planner.proofs.DirectionLaws.{size-along, along-forward, along-backward}
 use Rattle.profile.specs.Profile as profile
 use Rattle.motion.specs.Direction as direction
-use Rattle.planner.specs.Direction.{along}
 use Rattle.motion.proofs.KeptRules.{Keeps}
 use Rattle.motion.proofs.OrderedLaws.{at}
-use Rattle.motion.proofs.StateLaws.{size-along}
-
--- a number that is not negative, in either direction
-negated-not-above : (x : ℤ) → pos 0 ≤ℤ x → negℤ x ≤ℤ pos 0
-negated-not-above (pos zero) h = record { le = tt }
-negated-not-above (pos (suc n)) h = record { le = tt }
-negated-not-above (negsuc n) h = absurd (h .le)
-
-along-forward : (X x : ℤ) → pos 0 <ℤ X → pos 0 ≤ℤ x → pos 0 ≤ℤ along X x
-unfolding along
-along-forward (pos n) x h k = k
-along-forward (negsuc n) x h k = absurd (h .lt)
-
-along-backward : (X x : ℤ) → X <ℤ pos 0 → pos 0 ≤ℤ x → along X x ≤ℤ pos 0
-unfolding along
-along-backward (pos n) x h k = absurd (not-suc-le-zero (ltb→lt n 0 (h .lt)))
-along-backward (negsuc n) x h k = negated-not-above x k
 
 module _ {X : ℤ} {V₀ A₀ J₀ S₀ a b c e D short : ℕ} (f : Keeps X V₀ A₀ J₀ S₀ a b c e D short) where
   -- the four bounds

@@ -1,4 +1,4 @@
--- The count of a position: the quotient with its remainder gives it, and there is no other. Assumes nothing.
+-- The count of a position: the quotient with its remainder gives it, and there is no other.
 use mathlib.Core.Path.{_≡_, sym, ap, _∙_}
 use Prim.Native.Nat.{ℕ, suc, _+_, _-_, _*_, _≤_, _<_}
 use native.Mathlib.Nat.{le-antisymm, le-of-suc-le-suc, lt-of-not-le}
@@ -53,7 +53,11 @@ other-side n q h =
 near : (n q : ℕ) → IsCount (pos n) (pos q) → 2 * ((n - unitsPerCount * q) + (unitsPerCount * q - n)) ≤ unitsPerCount
 near n q h = rw (size-difference n (unitsPerCount * q)) at (h .nearest)
 
-at-half : (n q : ℕ) → IsCount (pos n) (pos q) → 2 * ((n - unitsPerCount * q) + (unitsPerCount * q - n)) ≡ unitsPerCount → n < unitsPerCount * q
+at-half :
+    (n q : ℕ)
+    → IsCount (pos n) (pos q)
+    → 2 * ((n - unitsPerCount * q) + (unitsPerCount * q - n)) ≡ unitsPerCount
+    → n < unitsPerCount * q
 at-half n q h t = h .half-away (ap (λ (m : ℕ). 2 * m) (size-difference n (unitsPerCount * q)) ∙ t)
 
 not-two : (n q r : ℕ) → IsCount (pos n) (pos q) → IsCount (pos n) (pos r) → q < r → ⊥

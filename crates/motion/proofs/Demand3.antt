@@ -1,5 +1,5 @@
 -- Demand 3: the theorem `demand-3` proves the claim of specs/Demand3.antt. It rests on the rules (planner), on the laws of the profile
--- (profile) and on the promises of the entries alone. Assumes nothing.
+-- (profile) and on the promises of the entries alone.
 use mathlib.Core.List.{List}
 use mathlib.Core.Path.{_≡_, sym, ap, _∙_}
 use Prim.Native.Nat.{ℕ, _+_, _≤_, _<_, zero-le}
@@ -23,7 +23,8 @@ use Rattle.motion.proofs.KeptRules.{keeps}
 use Rattle.motion.proofs.SumsFromRest as sums
 use Rattle.motion.proofs.BoundRules as bounds
 use Rattle.motion.proofs.HalfCountRule as half
-use Rattle.motion.proofs.EndRule as end
+use Rattle.motion.proofs.RestLaws as rest
+use Rattle.motion.proofs.EndRule.{count-end}
 
 -- the values of an answer
 valuesOf : Result Values → Values
@@ -46,7 +47,10 @@ module _ (X : ℤ) (V₀ A₀ J₀ S₀ : ℕ) (h : Accepted X V₀ A₀ J₀ S�
       → FillsPositions X V₀ A₀ J₀ S₀ old rows new
       → (N < length new) × ((k : ℕ) → k ≤ N → getD new k (pos 0) ≡ value.position X V₀ A₀ J₀ S₀ k)
   unfolding FillsPositions
-  held old new rows room filled = (omega (arith, filled-places (entered-rule h) room tt filled), λ k l. filled-row (entered-rule h) room tt filled (pos 0) k (omega arith))
+  held old new rows room filled = (
+    omega (arith, filled-places (entered-rule h) room tt filled),
+    λ k l. filled-row (entered-rule h) room tt filled (pos 0) k (omega arith),
+  )
 
   module _ (sample : ℕ → Result Values) (promised : (k : ℕ) → k ≤ N → Samples X V₀ A₀ J₀ S₀ k (sample k)) where
     values : (k : ℕ) (l : k ≤ N) → valuesOf (sample k) ≡ valuesWith X V₀ A₀ J₀ S₀ k (promised k l .count)
@@ -103,23 +107,26 @@ demand-3 X V₀ A₀ J₀ S₀ h sample promised old new rows room filled =
       position-rest = at-position 0 zero-le ∙ sums.position-rest _ _ _ _ _ _;
       jerk-sum = λ k l. rw (at-jerk (k + 1) (omega arith), at-jerk k (omega arith), at-snap k (omega arith)) (sums.jerk-sum _ _ _ _ _ _ k);
       acceleration-sum = λ k l.
-          rw (at-acceleration (k + 1) (omega arith), at-acceleration k (omega arith), at-jerk k (omega arith)) (sums.acceleration-sum _ _ _ _ _ _ k);
+          rw (at-acceleration (k + 1) (omega arith), at-acceleration k (omega arith), at-jerk k (omega arith))
+          (sums.acceleration-sum _ _ _ _ _ _ k);
       velocity-sum = λ k l.
-          rw (at-velocity (k + 1) (omega arith), at-velocity k (omega arith), at-acceleration k (omega arith)) (sums.velocity-sum _ _ _ _ _ _ k);
+          rw (at-velocity (k + 1) (omega arith), at-velocity k (omega arith), at-acceleration k (omega arith))
+          (sums.velocity-sum _ _ _ _ _ _ k);
       position-sum = λ k l.
-          rw (at-position (k + 1) (omega arith), at-position k (omega arith), at-velocity k (omega arith)) (sums.position-sum _ _ _ _ _ _ k);
+          rw (at-position (k + 1) (omega arith), at-position k (omega arith), at-velocity k (omega arith))
+          (sums.position-sum _ _ _ _ _ _ k);
       snap-bound = λ k l. rw (at-snap k l) (bounds.snap-bound f k);
       jerk-bound = λ k l. rw (at-jerk k l) (bounds.jerk-bound f k);
       acceleration-bound = λ k l. rw (at-acceleration k l) (bounds.acceleration-bound f k);
       velocity-bound = λ k l. rw (at-velocity k l) (bounds.velocity-bound f k);
       forward = λ s k l. rw (at-velocity k l) (bounds.forward f s k);
       backward = λ s k l. rw (at-velocity k l) (bounds.backward f s k);
-      never-past = λ s k l. rw (at-position k l, half.lack-ahead f s k) (not-below-zero _);
-      below-half = λ s k l. rw (at-position k l, half.lack-ahead f s k) (pos-below _ _ (half.below-half f k));
-      never-past-back = λ s k l. rw (at-position k l, half.lack-behind f s k) (not-below-zero _);
-      below-half-back = λ s k l. rw (at-position k l, half.lack-behind f s k) (pos-below _ _ (half.below-half f k));
-      jerk-end = at-jerk _ last ∙ end.jerk-end f;
-      acceleration-end = at-acceleration _ last ∙ end.acceleration-end f;
-      velocity-end = at-velocity _ last ∙ end.velocity-end f;
-      count-end = count X V₀ A₀ J₀ S₀ h sample promised _ last ∙ one-count _ _ _ (promised _ last .count-is) (end.count-end f);
+      never-past = λ s k l. rw (at-position k l, half.lack-forward f s k) (not-below-zero _);
+      below-half = λ s k l. rw (at-position k l, half.lack-forward f s k) (pos-below _ _ (half.below-half f k));
+      never-past-back = λ s k l. rw (at-position k l, half.lack-backward f s k) (not-below-zero _);
+      below-half-back = λ s k l. rw (at-position k l, half.lack-backward f s k) (pos-below _ _ (half.below-half f k));
+      jerk-end = at-jerk _ last ∙ rest.jerk-rests X (f .ordered) _ _ last;
+      acceleration-end = at-acceleration _ last ∙ rest.acceleration-rests X (f .ordered) _ _ last;
+      velocity-end = at-velocity _ last ∙ rest.velocity-rests X (f .ordered) _ _ last;
+      count-end = count X V₀ A₀ J₀ S₀ h sample promised _ last ∙ one-count _ _ _ (promised _ last .count-is) (count-end f);
     }

@@ -1,17 +1,17 @@
--- Document 01, demand 3, "The end", for the numbers of a plan. Assumes nothing.
+-- Document 01, demand 3, "The end", for the numbers of a plan.
 use mathlib.Core.Path.{_≡_, ap}
 use Prim.Native.Nat.{ℕ, suc, _+_, _*_, _<_, _^_}
 use native.Mathlib.Nat.{le-trans, le-refl}
 use native.Mathlib.Omega.{arith}
 use lib.IntN.{ℤ, pos, negsuc}
 use Rattle.planner.specs.Quantities.{distance}
+use Rattle.planner.specs.Direction.{along}
 use Rattle.planner.specs.Durations.{N, P}
+use Rattle.motion.specs.Direction as direction
+use Rattle.motion.specs.Count.{IsCount}
 use Rattle.motion.proofs.KeptRules.{Keeps}
 use Rattle.motion.proofs.OrderedLaws.{at-end}
-use Rattle.motion.specs.Direction as direction
-use Rattle.planner.specs.Direction.{along}
-use Rattle.motion.specs.Count.{IsCount}
-use Rattle.motion.proofs.RestLaws as rest
+use Rattle.motion.proofs.RestLaws.{snap-rests}
 use Rattle.motion.proofs.CountLaws.{mirrored, count-positive}
 
 -- a position that lacks less than half a count of X counts
@@ -24,18 +24,9 @@ module _ {X : ℤ} {V₀ A₀ J₀ S₀ a b c e D short : ℕ} (f : Keeps X V₀
   abbrev last : ℕ
   last = N a b c e
 
-  -- at the end all but the position are 0
+  -- no rule of the demand asks for the snap at the end; it is 0 as the other derivatives are
   pub snap-end : direction.snap X a b c e D last ≡ pos 0
-  snap-end = rest.snap-rests X (f .ordered) D last (le-refl last)
-
-  pub jerk-end : direction.jerk X a b c e D last ≡ pos 0
-  jerk-end = rest.jerk-rests X (f .ordered) D last (le-refl last)
-
-  pub acceleration-end : direction.acceleration X a b c e D last ≡ pos 0
-  acceleration-end = rest.acceleration-rests X (f .ordered) D last (le-refl last)
-
-  pub velocity-end : direction.velocity X a b c e D last ≡ pos 0
-  velocity-end = rest.velocity-rests X (f .ordered) D last (le-refl last)
+  snap-end = snap-rests X (f .ordered) D last (le-refl last)
 
   position-end : direction.position X a b c e D last ≡ along X (pos (D * P a b c e))
   unfolding direction.position

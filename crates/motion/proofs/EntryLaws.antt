@@ -1,4 +1,4 @@
--- From the planner's answer to what an entry promises: what it may do with a plan, and which refusal comes first. Assumes nothing.
+-- From the planner's answer to what an entry promises: what it may do with a plan, and which refusal comes first.
 use mathlib.Core.Bool.{Bool, true, false}
 use mathlib.Core.List.{List, [], _∷_}
 use mathlib.Core.Path.{_≡_, refl, sym, ap, subst, _∙_}
@@ -80,16 +80,16 @@ module _ {X : ℤ} {V₀ A₀ J₀ S₀ a b c e D short : ℕ} (h : Entered X V�
   abbrev rules : PlanFacts X V₀ A₀ J₀ S₀ a b c e D short
   rules = h .facts
 
-  far : distance X ≤ 2 ^ 60
+  distance-most : distance X ≤ 2 ^ 60
   unfolding distance
-  far = mul-le-mul-left unitsPerCount (rules .accepted .in-range .near)
+  distance-most = mul-le-mul-left unitsPerCount (rules .accepted .in-range .near)
 
   pub within-range : WithinRange a b c e D
   within-range =
       record {
         ordered = rules .ordered;
         samples = rules .samples;
-        reach = le-trans (omega (arith, rules .whole)) far;
+        reach = le-trans (omega (arith, rules .whole)) distance-most;
         speed = le-trans (keeps rules .velocity) (rules .accepted .in-range .velocity .at-most);
       }
 
@@ -110,8 +110,10 @@ module _ {X : ℤ} {V₀ A₀ J₀ S₀ a b c e D short : ℕ} (h : Entered X V�
   pub by-rule :
       {T : Type 0} (F : (a b c e D : ℕ) → T)
       → F a b c e D
-      ≡ F (rule.a (distance X) V₀ A₀ J₀ S₀) (rule.b (distance X) V₀ A₀ J₀ S₀) (rule.c (distance X) V₀ A₀ J₀ S₀) (rule.e (distance X) V₀ A₀ J₀ S₀)
-      (durations.D (distance X) (rule.a (distance X) V₀ A₀ J₀ S₀) (rule.b (distance X) V₀ A₀ J₀ S₀) (rule.c (distance X) V₀ A₀ J₀ S₀) (rule.e (distance X) V₀ A₀ J₀ S₀))
+      ≡ F (rule.a (distance X) V₀ A₀ J₀ S₀) (rule.b (distance X) V₀ A₀ J₀ S₀) (rule.c (distance X) V₀ A₀ J₀ S₀)
+      (rule.e (distance X) V₀ A₀ J₀ S₀)
+      (durations.D (distance X) (rule.a (distance X) V₀ A₀ J₀ S₀) (rule.b (distance X) V₀ A₀ J₀ S₀) (rule.c (distance X) V₀ A₀ J₀ S₀)
+      (rule.e (distance X) V₀ A₀ J₀ S₀))
   by-rule F = rw (rules .snap-rule, rules .a-rule, rules .b-rule, rules .c-rule, rules .e-rule) refl
 
   pub samples-are : durations.N a b c e ≡ value.N X V₀ A₀ J₀ S₀

@@ -1,4 +1,4 @@
--- What a table entry promises, case by case, for any rule of its rows. Assumes nothing.
+-- What a table entry promises, case by case, for any rule of its rows.
 use mathlib.Core.Bool.{Bool, true, false}
 use mathlib.Core.List.{List, [], _∷_, _++_}
 use mathlib.Core.Path.{_≡_, refl, sym, ap, ap₂, _∙_, fun-ext}
@@ -47,19 +47,30 @@ module _ {E : Type 0} {rows : ℕ} {row : ℕ → E} {old : List E} where
   unfolding firstRefusal tableOf
   own-refused n test l h = record { outcome-is = rw (le-ltb (length old) rows l, h) refl; table-is = refl }
 
-  pub written : (own : List Check) {n : ℕ} {new : List E} → n ≡ rows → rows ≤ length old → Pass own → RowsIn rows row old new → WritesRows own rows row old (given n) new
+  pub written :
+      (own : List Check) {n : ℕ} {new : List E}
+      → n ≡ rows
+      → rows ≤ length old
+      → Pass own
+      → RowsIn rows row old new
+      → WritesRows own rows row old (given n) new
   unfolding firstRefusal tableOf
   written own count l p h =
       record {
         outcome-is =
             ap given count
-            ∙ sym (ap (λ (t : Bool). firstRefusal refused (check 8 t ∷ own) (given rows)) (le-ltb (length old) rows l) ∙ all-pass own (given rows) p);
+            ∙ sym (ap (λ (t : Bool). firstRefusal refused (check 8 t ∷ own) (given rows)) (le-ltb (length old) rows l)
+            ∙ all-pass own (given rows) p);
         table-is = h .table-is ∙ ap (λ (n : ℕ). rowsFrom row 0 rows ++ drop n old) (sym (length-rows row 0 rows));
       }
 
   -- a move and a table
   module _ {X : ℤ} {V₀ A₀ J₀ S₀ : ℕ} {own : List Check} where
-    pub fills-refused : {n : ℕ} {o : Outcome} → Plans X V₀ A₀ J₀ S₀ o → o ≡ plan.refused n → Fills X V₀ A₀ J₀ S₀ own rows row old (refused n) old
+    pub fills-refused :
+        {n : ℕ} {o : Outcome}
+        → Plans X V₀ A₀ J₀ S₀ o
+        → o ≡ plan.refused n
+        → Fills X V₀ A₀ J₀ S₀ own rows row old (refused n) old
     unfolding tableResult tableOf
     fills-refused h q =
         let t = refused-first (check 8 (ltb (length old) rows) ∷ own) rows h q in
@@ -82,7 +93,8 @@ module _ {E : Type 0} {rows : ℕ} {row : ℕ → E} {old : List E} where
           outcome-is = result;
           table-is =
               w .table-is
-              ∙ ap₂ (λ (r : Result ℕ) (rows : List E). tableOf r rows old) result (ap₂ (λ (f : ℕ → E) (n : ℕ). rowsFrom f 0 n) (fun-ext same) count);
+              ∙ ap₂ (λ (r : Result ℕ) (rows : List E). tableOf r rows old) result
+              (ap₂ (λ (f : ℕ → E) (n : ℕ). rowsFrom f 0 n) (fun-ext same) count);
         }
 
     -- what the table holds where no check applies
@@ -93,16 +105,27 @@ module _ {E : Type 0} {rows : ℕ} {row : ℕ → E} {old : List E} where
         (pass : Pass own)
         (filled : Fills X V₀ A₀ J₀ S₀ own rows row old o new)
       where
+        all-filled : tableResult X V₀ A₀ J₀ S₀ own rows (length old) ≡ given rows
+        unfolding tableResult
+        all-filled =
+            own-checks h (check 8 (ltb (length old) rows) ∷ own) rows
+            ∙ all-pass (check 8 (ltb (length old) rows) ∷ own) (given rows) (le-ltb (length old) rows room, pass)
+
+        pub filled-outcome : o ≡ given rows
+        filled-outcome = filled .outcome-is ∙ all-filled
+
         filled-table : new ≡ rowsFrom row 0 rows ++ drop (length (rowsFrom row 0 rows)) old
-        unfolding tableResult tableOf
-        filled-table =
-            filled .table-is
-            ∙ ap (λ (r : Result ℕ). tableOf r (rowsFrom row 0 rows) old)
-            (own-checks h (check 8 (ltb (length old) rows) ∷ own) rows ∙ all-pass (check 8 (ltb (length old) rows) ∷ own) (given rows) (le-ltb (length old) rows room, pass))
+        unfolding tableOf
+        filled-table = filled .table-is ∙ ap (λ (r : Result ℕ). tableOf r (rowsFrom row 0 rows) old) all-filled
 
         pub filled-places : rows ≤ length new
         filled-places =
-            omega (arith, ap length filled-table, length-append (rowsFrom row 0 rows) (drop (length (rowsFrom row 0 rows)) old), length-rows row 0 rows)
+            omega (
+              arith,
+              ap length filled-table,
+              length-append (rowsFrom row 0 rows) (drop (length (rowsFrom row 0 rows)) old),
+              length-rows row 0 rows,
+            )
 
         pub filled-row : (x : E) (k : ℕ) → k < rows → getD new k x ≡ row k
         filled-row x k l =

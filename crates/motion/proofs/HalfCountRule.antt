@@ -1,4 +1,4 @@
--- Document 01, demand 3, "Half-count rule", for the numbers of a plan. Assumes nothing.
+-- Document 01, demand 3, "Half-count rule", for the numbers of a plan.
 use mathlib.Core.Path.{_≡_, refl, ap, _∙_}
 use mathlib.Core.List.{[], _∷_}
 use Prim.Native.Nat.{ℕ, _+_, _*_, _<_, _^_}
@@ -8,26 +8,25 @@ use lib.Dec.{ltb→lt}
 use lib.IntN.{ℤ, pos, negsuc, negℤ, _-ℤ_, _*ℤ_}
 use lib.Signed.{_<ℤ_}
 use Rattle.planner.specs.Quantities.{distance, unitsPerCount}
-use Rattle.planner.specs.Durations.{P}
-use Rattle.profile.specs.Widths.{ramp}
-use Rattle.motion.specs.Direction as direction
 use Rattle.planner.specs.Direction.{along}
-use Rattle.motion.proofs.IntegerLaws.{multiple-negated, difference, swapped-difference}
-use Rattle.profile.specs.Widths.{product}
+use Rattle.planner.specs.Durations.{P}
+use Rattle.profile.specs.Widths.{product, ramp}
 use Rattle.profile.proofs.HalfCountLaw.{exact-ramp, behind-half}
+use Rattle.motion.specs.Direction as direction
+use Rattle.motion.proofs.IntegerLaws.{multiple-negated, difference, swapped-difference}
 use Rattle.motion.proofs.KeptRules.{Keeps}
 use Rattle.motion.proofs.OrderedLaws.{at}
 
 -- differences in the direction of X
-along-ahead : (X : ℤ) (m n z : ℕ) → pos 0 <ℤ X → along X (pos z) -ℤ pos m *ℤ along X (pos n) ≡ pos z -ℤ pos (m * n)
+difference-forward : (X : ℤ) (m n z : ℕ) → pos 0 <ℤ X → along X (pos z) -ℤ pos m *ℤ along X (pos n) ≡ pos z -ℤ pos (m * n)
 unfolding along
-along-ahead (pos i) m n z h = refl
-along-ahead (negsuc i) m n z h = absurd (h .lt)
+difference-forward (pos i) m n z h = refl
+difference-forward (negsuc i) m n z h = absurd (h .lt)
 
-along-behind : (X : ℤ) (m n z : ℕ) → X <ℤ pos 0 → pos m *ℤ along X (pos n) -ℤ along X (pos z) ≡ pos z -ℤ pos (m * n)
+difference-backward : (X : ℤ) (m n z : ℕ) → X <ℤ pos 0 → pos m *ℤ along X (pos n) -ℤ along X (pos z) ≡ pos z -ℤ pos (m * n)
 unfolding along
-along-behind (pos i) m n z h = absurd (not-suc-le-zero (ltb→lt i 0 (h .lt)))
-along-behind (negsuc i) m n z h = ap (λ x. x -ℤ negℤ (pos z)) (multiple-negated m (pos n)) ∙ swapped-difference (pos (m * n)) (pos z)
+difference-backward (pos i) m n z h = absurd (not-suc-le-zero (ltb→lt i 0 (h .lt)))
+difference-backward (negsuc i) m n z h = ap (λ x. x -ℤ negℤ (pos z)) (multiple-negated m (pos n)) ∙ swapped-difference (pos (m * n)) (pos z)
 
 module _ {X : ℤ} {V₀ A₀ J₀ S₀ a b c e D short : ℕ} (f : Keeps X V₀ A₀ J₀ S₀ a b c e D short) where
   -- the position of a unit snap
@@ -47,19 +46,19 @@ module _ {X : ℤ} {V₀ A₀ J₀ S₀ a b c e D short : ℕ} (f : Keeps X V₀
   unfolding direction.position
   place size k = ap (along X) (at (f .ordered) size k .position-is)
 
-  pub lack-ahead :
+  pub lack-forward :
       pos 0 <ℤ X
       → (k : ℕ)
       → direction.position X a b c e (distance X) k -ℤ pos (P a b c e) *ℤ direction.position X a b c e D k ≡ pos (short * unitPosition k)
-  lack-ahead h k =
-      rw (place (distance X) k, place D k) (along-ahead X (P a b c e) (D * unitPosition k) (distance X * unitPosition k) h ∙ lack k)
+  lack-forward h k =
+      rw (place (distance X) k, place D k) (difference-forward X (P a b c e) (D * unitPosition k) (distance X * unitPosition k) h ∙ lack k)
 
-  pub lack-behind :
+  pub lack-backward :
       X <ℤ pos 0
       → (k : ℕ)
       → pos (P a b c e) *ℤ direction.position X a b c e D k -ℤ direction.position X a b c e (distance X) k ≡ pos (short * unitPosition k)
-  lack-behind h k =
-      rw (place (distance X) k, place D k) (along-behind X (P a b c e) (D * unitPosition k) (distance X * unitPosition k) h ∙ lack k)
+  lack-backward h k =
+      rw (place (distance X) k, place D k) (difference-backward X (P a b c e) (D * unitPosition k) (distance X * unitPosition k) h ∙ lack k)
 
   -- it is less than half a count
   pub below-half : (k : ℕ) → 2 * (short * unitPosition k) < unitsPerCount * P a b c e

@@ -1,4 +1,4 @@
--- The snap of a profile over widths, from inside its outermost interval. Assumes nothing.
+-- The snap of a profile over widths, from inside its outermost interval.
 use mathlib.Core.Bool.{Bool, cond}
 use mathlib.Core.List.{[]}
 use mathlib.Core.Path.{_≡_, ap}

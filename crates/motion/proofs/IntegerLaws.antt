@@ -1,4 +1,4 @@
--- Sizes, differences, the order and the range of signed numbers. Assumes nothing.
+-- Sizes, differences, the order and the range of signed numbers.
 use mathlib.Core.Bool.{Bool, true, false, cond}
 use mathlib.Core.Path.{_≡_, refl, sym, ap, _∙_}
 use Prim.Native.Nat.{ℕ, zero, suc, _+_, _-_, _*_, _^_, _≤_, _<_, zero-le}

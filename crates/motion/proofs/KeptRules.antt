@@ -1,5 +1,4 @@
 -- What demand 3 needs of a plan: ordered intervals, the four bounds, and a small shortfall. No rule of an interval is among it.
--- Assumes nothing.
 use mathlib.Core.Path.{_≡_}
 use Prim.Native.Nat.{ℕ, _+_, _*_, _≤_, _<_, _^_}
 use native.Mathlib.Nat.{le-trans, mul-assoc}

@@ -1,4 +1,4 @@
--- The snaps of segments as a list are their snaps sample by sample, in the direction of X. Assumes nothing.
+-- The snaps of segments as a list are their snaps sample by sample, in the direction of X.
 use mathlib.Core.List.{List, [], _∷_, _++_}
 use mathlib.Core.Path.{_≡_, refl, sym, ap, subst, _∙_}
 use Prim.Native.Nat.{ℕ, zero, suc, _+_, _<_}
@@ -15,12 +15,12 @@ unfoldable pub Listed : List ℤ → (ℕ → ℤ) → ℕ → Type 0
 Listed [] f k = Unit {0}
 Listed (x ∷ xs) f k = (x ≡ f k) × Listed xs f (suc k)
 
-pub listed-joined : (xs ys : List ℤ) (f : ℕ → ℤ) (k : ℕ) → Listed xs f k → Listed ys f (k + length xs) → Listed (xs ++ ys) f k
+listed-joined : (xs ys : List ℤ) (f : ℕ → ℤ) (k : ℕ) → Listed xs f k → Listed ys f (k + length xs) → Listed (xs ++ ys) f k
 unfolding Listed
 listed-joined [] ys f k h l = subst (Listed ys f) (omega arith) l
 listed-joined (x ∷ xs) ys f k h l = (h .0, listed-joined xs ys f (suc k) (h .1) (subst (Listed ys f) (omega arith) l))
 
-pub listed-equal : (n : ℕ) (x : ℤ) (f : ℕ → ℤ) (k : ℕ) → ((i : ℕ) → i < n → f (k + i) ≡ x) → Listed (replicate n x) f k
+listed-equal : (n : ℕ) (x : ℤ) (f : ℕ → ℤ) (k : ℕ) → ((i : ℕ) → i < n → f (k + i) ≡ x) → Listed (replicate n x) f k
 unfolding Listed
 listed-equal zero x f k h = tt
 listed-equal (suc n) x f k h = (

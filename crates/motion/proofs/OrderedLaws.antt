@@ -1,4 +1,4 @@
--- The laws of the profile, for intervals that follow each other. Assumes nothing.
+-- The laws of the profile, for intervals that follow each other.
 use mathlib.Core.List.{[], _∷_}
 use Prim.Native.Nat.{ℕ, _≤_}
 use Rattle.planner.specs.Durations.{N}

@@ -1,4 +1,4 @@
--- The positions of a plan, written along it. Assumes nothing.
+-- The positions of a plan, written along it.
 use mathlib.Core.List.{List}
 use mathlib.Core.Path.{_≡_, refl, ap, _∙_, fun-ext}
 use Prim.Native.Nat.{ℕ, _+_, _≤_}
@@ -25,7 +25,11 @@ module _ (X : ℤ) (a b c e D : ℕ) (h : WithinRange a b c e D) where
   abbrev snap : ℕ → ℤ
   snap = direction.snap X a b c e D
 
-  pub positions-can-run : (more : ℕ) {places : ℕ} → more ≤ 2 → N a b c e + more ≤ places → CanRun positionWriter (run X a b c e D h more) rest places
+  pub positions-can-run :
+      (more : ℕ) {places : ℕ}
+      → more ≤ 2
+      → N a b c e + more ≤ places
+      → CanRun positionWriter (run X a b c e D h more) rest places
   unfolding sum sums
   positions-can-run more few l = can-run X a b c e D h (carried snap) more (λ i k. step-fits X a b c e D h i (omega (arith, h .samples))) l
 
@@ -36,5 +40,6 @@ module _ (X : ℤ) (a b c e D : ℕ) (h : WithinRange a b c e D) where
       → RowsIn (N a b c e + 1) (direction.position X a b c e D) old new
   unfolding sum sums
   positions-in {old} {new} l t =
-      let same : (λ k. stateAt snap k .position) ≡ direction.position X a b c e D = fun-ext (λ k. ap (λ (s : State). s .position) (state-is X a b c e D k)) in
+      let same : (λ k. stateAt snap k .position) ≡ direction.position X a b c e D =
+      fun-ext (λ k. ap (λ (s : State). s .position) (state-is X a b c e D k)) in
       rw same at (rows-in X a b c e D h (carried snap) 1 l t)

@@ -1,13 +1,13 @@
--- From the last sample on, every value of a plan in the move's direction but the position is 0. Assumes nothing.
+-- From the last sample on, every value of a plan in the move's direction but the position is 0.
 use mathlib.Core.Path.{_≡_, ap, _∙_}
 use Prim.Native.Nat.{ℕ, _≤_}
 use lib.IntN.{ℤ, pos}
+use Rattle.planner.specs.Direction.{along}
 use Rattle.planner.specs.Durations.{N}
 use Rattle.planner.specs.Facts.{Ordered}
+use Rattle.planner.proofs.DirectionLaws.{along-zero}
 use Rattle.profile.specs.Facts.{AtEnd}
 use Rattle.motion.specs.Direction as direction
-use Rattle.planner.specs.Direction.{along}
-use Rattle.planner.proofs.DirectionLaws.{along-zero}
 use Rattle.motion.proofs.OrderedLaws.{at-end}
 
 module _ (X : ℤ) {a b c e : ℕ} (o : Ordered a b c e) (D k : ℕ) (l : N a b c e ≤ k) where

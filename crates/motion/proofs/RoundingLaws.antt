@@ -1,4 +1,4 @@
--- Rounding by the machine's quotient and remainder, which go towards zero, gives the count. Assumes nothing.
+-- Rounding by the machine's quotient and remainder, which go towards zero, gives the count.
 use mathlib.Core.Bool.{Bool, true, false, true≢false}
 use mathlib.Core.Path.{_≡_, refl, sym, ap, subst}
 use Prim.Native.Nat.{ℕ, zero, suc, _+_, _*_, _/_, _%_, _≤_, _<_, _^_}
@@ -20,11 +20,11 @@ half = 549755813888
 parts : (n : ℕ) → n ≡ unitsPerCount * (n / unitsPerCount) + n % unitsPerCount
 parts n = sym (div-add-mod n unitsPerCount)
 
-rest-below : (n : ℕ) → n % unitsPerCount < unitsPerCount
-rest-below n = mod-lt n (omega arith)
+remainder-below : (n : ℕ) → n % unitsPerCount < unitsPerCount
+remainder-below n = mod-lt n (omega arith)
 
 rounds-up : (n : ℕ) → half ≤ n % unitsPerCount → IsCount (pos n) (pos (suc (n / unitsPerCount)))
-rounds-up n h = above-half n (n / unitsPerCount) (n % unitsPerCount) (parts n) (rest-below n) (omega arith)
+rounds-up n h = above-half n (n / unitsPerCount) (n % unitsPerCount) (parts n) (remainder-below n) (omega arith)
 
 rounds-down : (n : ℕ) → n % unitsPerCount < half → IsCount (pos n) (pos (n / unitsPerCount))
 rounds-down n h = below-half n (n / unitsPerCount) (n % unitsPerCount) (parts n) (omega arith)
@@ -34,13 +34,13 @@ not-above : (t r : ℕ) → half ≤ t → leZ (pos t) (negℤ (pos r)) ≡ true
 not-above t zero l h = omega (arith, leb-true t 0 h)
 not-above t (suc r) l h = true≢false (sym h)
 
-far : (m r : ℕ) → half ≤ suc m → leZ (negℤ (pos r)) (negsuc m) ≡ true → half ≤ r
-far m zero l h = absurd (true≢false (sym h))
-far m (suc r) l h = omega (arith, leb-true m r h)
+from-half : (m r : ℕ) → half ≤ suc m → leZ (negℤ (pos r)) (negsuc m) ≡ true → half ≤ r
+from-half m zero l h = absurd (true≢false (sym h))
+from-half m (suc r) l h = omega (arith, leb-true m r h)
 
-close : (m r : ℕ) → suc m ≤ half → leZ (negℤ (pos r)) (negsuc m) ≡ false → r < half
-close m zero l h = omega arith
-close m (suc r) l h = omega (arith, leb-false m r h)
+under-half : (m r : ℕ) → suc m ≤ half → leZ (negℤ (pos r)) (negsuc m) ≡ false → r < half
+under-half m zero l h = omega arith
+under-half m (suc r) l h = omega (arith, leb-false m r h)
 
 one-less : (q : ℕ) → negsuc q ≡ negℤ (pos q) -ℤ pos 1
 one-less zero = refl
@@ -50,11 +50,15 @@ pub up : (x : ℤ) (t : ℕ) → leZ (pos t) (remZ x (pos unitsPerCount)) ≡ tr
 up (pos n) t h l = rw (add-one (n / unitsPerCount)) (rounds-up n (le-trans l (leb-true t (n % unitsPerCount) h)))
 up (negsuc n) t h l = absurd (not-above t (suc n % unitsPerCount) l h)
 
-pub down : (x : ℤ) (m : ℕ) → leZ (remZ x (pos unitsPerCount)) (negsuc m) ≡ true → half ≤ suc m → IsCount x (quotZ x (pos unitsPerCount) -ℤ pos 1)
+pub down :
+    (x : ℤ) (m : ℕ)
+    → leZ (remZ x (pos unitsPerCount)) (negsuc m) ≡ true
+    → half ≤ suc m
+    → IsCount x (quotZ x (pos unitsPerCount) -ℤ pos 1)
 down (pos n) m h l = absurd (true≢false (sym h))
 down (negsuc n) m h l =
     subst (IsCount (negsuc n)) (one-less (suc n / unitsPerCount))
-    (mirrored (pos (suc n)) (pos (suc (suc n / unitsPerCount))) (rounds-up (suc n) (far m (suc n % unitsPerCount) l h)))
+    (mirrored (pos (suc n)) (pos (suc (suc n / unitsPerCount))) (rounds-up (suc n) (from-half m (suc n % unitsPerCount) l h)))
 
 pub stay :
     (x : ℤ) (t m : ℕ)
@@ -65,7 +69,7 @@ pub stay :
     → IsCount x (quotZ x (pos unitsPerCount))
 stay (pos n) t m h k u l = rounds-down n (lt-of-lt-of-le (leb-false t (n % unitsPerCount) h) u)
 stay (negsuc n) t m h k u l =
-    mirrored (pos (suc n)) (pos (suc n / unitsPerCount)) (rounds-down (suc n) (close m (suc n % unitsPerCount) l k))
+    mirrored (pos (suc n)) (pos (suc n / unitsPerCount)) (rounds-down (suc n) (under-half m (suc n % unitsPerCount) l k))
 
 -- no step of the rounding leaves the range
 small-quotient : (n m : ℕ) → unitsPerCount * m ≤ n + 1 → mag (negℤ (pos m)) ≤ n
@@ -74,7 +78,8 @@ small-quotient n (suc m) h = omega arith
 
 pub quotient-fits : (x : ℤ) → SFits w64 x → SFits w64 (quotZ x (pos unitsPerCount))
 quotient-fits (pos n) h = record { sfits = omega (arith, h .sfits, parts n) }
-quotient-fits (negsuc n) h = record { sfits = omega (arith, h .sfits, parts (suc n), small-quotient n (suc n / unitsPerCount) (omega (arith, parts (suc n)))) }
+quotient-fits (negsuc n) h =
+    record { sfits = omega (arith, h .sfits, parts (suc n), small-quotient n (suc n / unitsPerCount) (omega (arith, parts (suc n)))) }
 
 size-limit : (x : ℤ) → SFits w64 x → natAbs x ≤ 2 ^ 63
 size-limit x h = natAbs-le x (h .sfits)

@@ -1,4 +1,4 @@
--- A run from rest over listed snaps stores the rows of the profile and keeps every later place. Assumes nothing.
+-- A run from rest over listed snaps stores the rows of the profile and keeps every later place.
 use mathlib.Core.List.{List, [], _∷_, _++_}
 use mathlib.Core.Path.{_≡_, refl, sym, ap, ap₂, subst, _∙_}
 use Prim.Native.Nat.{ℕ, suc, _+_, _≤_, _<_}

@@ -1,10 +1,8 @@
 -- What demand 3 assumes can be met: the rules' own answers meet the promises of the entries, for every move and every table.
--- Assumes nothing.
 use mathlib.Core.List.{List, []}
-use mathlib.Core.Path.{refl}
+use mathlib.Core.Path.{refl, sym}
 use Prim.Native.Nat.{ℕ, _+_}
 use native.Mathlib.Nat.{le-of-eq}
-use mathlib.Core.Path.{sym}
 use lib.IntN.{ℤ, pos}
 use lib.ListN.{length, replicate, length-replicate}
 use Rattle.planner.specs.Outcome.{Check}

@@ -1,4 +1,4 @@
--- Runs of steps that store rows: what is left of a run, and two runs that follow each other. Assumes nothing.
+-- Runs of steps that store rows: what is left of a run, and two runs that follow each other.
 use mathlib.Core.List.{List, [], _∷_, _++_}
 use mathlib.Core.Path.{_≡_, refl, sym, ap, ap₂, subst, _∙_}
 use Prim.Native.Nat.{ℕ, zero, suc, _+_, _-_, _≤_, _<_}
@@ -9,7 +9,9 @@ use lib.ListN.{length, set, replicate, length-set, length-append}
 use Rattle.motion.specs.Inner.Runs.{Writer, after, stored, StepsFit, CanRun, Ran}
 
 -- what is left to do: the steps xs from s, on this table, come to the same as those that were asked for
-pub record Remaining {S E : Type 0} (w : Writer S E) (xs : List ℤ) (s : S) (table : List E) (ys : List ℤ) (s₀ : S) (table₀ : List E) : Type 0 where
+pub record Remaining
+    {S E : Type 0} (w : Writer S E) (xs : List ℤ) (s : S) (table : List E) (ys : List ℤ) (s₀ : S) (table₀ : List E)
+    : Type 0 where
   pub can : CanRun w xs s (length table)
   pub same-length : length table ≡ length table₀
   pub table-is : stored w xs s table ≡ stored w ys s₀ table₀
@@ -56,7 +58,11 @@ module _ {S E : Type 0} {w : Writer S E} where
         let one : n ≡ suc n - 1 = omega arith in
         subst (λ (m : ℕ). Remaining w (x ∷ replicate m x) s table ys s₀ table₀) one h
 
-    pub none-of : (n : ℕ) (x : ℤ) {s : S} {table : List E} → n ≤ 0 → Remaining w (replicate n x) s table ys s₀ table₀ → Ran w ys s₀ table₀ table s
+    pub none-of :
+        (n : ℕ) (x : ℤ) {s : S} {table : List E}
+        → n ≤ 0
+        → Remaining w (replicate n x) s table ys s₀ table₀
+        → Ran w ys s₀ table₀ table s
     none-of zero x l h = none-left h
     none-of (suc n) x l h = absurd (not-suc-le-zero l)
 
@@ -64,7 +70,8 @@ module _ {S E : Type 0} (w : Writer S E) where
   length-stored : (xs : List ℤ) (s : S) (table : List E) → length (stored w xs s table) ≡ length table
   unfolding stored
   length-stored [] s table = refl
-  length-stored (x ∷ xs) s table = length-stored xs (w .step s x) (set table (w .place s) (w .row s)) ∙ length-set table (w .place s) (w .row s)
+  length-stored (x ∷ xs) s table =
+      length-stored xs (w .step s x) (set table (w .place s) (w .row s)) ∙ length-set table (w .place s) (w .row s)
 
   -- two runs, one after the other
   after-joined : (xs ys : List ℤ) (s : S) → after w (xs ++ ys) s ≡ after w ys (after w xs s)

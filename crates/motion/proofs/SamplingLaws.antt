@@ -1,4 +1,4 @@
--- What the one-sample entry promises, case by case. Assumes nothing.
+-- What the one-sample entry promises, case by case.
 use mathlib.Core.Path.{_≡_, sym, ap, subst, _∙_}
 use Prim.Native.Nat.{ℕ, _≤_, _<_}
 use borrow.Author.Tests.{lt-ltb, le-ltb}

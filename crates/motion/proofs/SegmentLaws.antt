@@ -1,4 +1,4 @@
--- The segments by their numbers: which have + and −, and which last q, r and s samples without snap, and the rest. Assumes nothing.
+-- The segments by their numbers: which have + and −, and which last q, r and s samples without snap, and the one after them.
 use mathlib.Core.List.{List, [], _∷_}
 use mathlib.Core.Logic.{_⊎_, inl, inr, ⊎-elim}
 use mathlib.Core.Path.{_≡_, refl, sym, subst}
@@ -15,11 +15,11 @@ abbrev pub Among : ℕ → List ℕ → ℕ → Type 0
 Among k [] i = i ≡ k
 Among k (l ∷ ks) i = (i ≡ k) ⊎ Among l ks i
 
-abbrev pub All : (ℕ → Type 0) → List ℕ → Type 0
+abbrev All : (ℕ → Type 0) → List ℕ → Type 0
 All P [] = Unit {0}
 All P (k ∷ ks) = P k × All P ks
 
-pub at-key : (P : ℕ → Type 0) (k : ℕ) (ks : List ℕ) (i : ℕ) → Among k ks i → All P (k ∷ ks) → P i
+at-key : (P : ℕ → Type 0) (k : ℕ) (ks : List ℕ) (i : ℕ) → Among k ks i → All P (k ∷ ks) → P i
 at-key P k [] i h a = subst P (sym h) (a .0)
 at-key P k (l ∷ ks) i h a = ⊎-elim (λ q. subst P (sym q) (a .0)) (λ m. at-key P l ks i m (a .1)) h
 
@@ -80,6 +80,6 @@ module _ (d : Durations) (levels : Levels) where
   unfolding segments level snapsOf
   lasting-s i h = at-key (At (d .s) (pos 0)) 7 [] i h (record { splits = refl }, tt)
 
-  pub lasting-rest : (i : ℕ) → Among 15 [] i → At (d .rest) (pos 0) i
+  pub lasting-more : (i : ℕ) → Among 15 [] i → At (d .more) (pos 0) i
   unfolding segments level snapsOf
-  lasting-rest i h = at-key (At (d .rest) (pos 0)) 15 [] i h (record { splits = refl }, tt)
+  lasting-more i h = at-key (At (d .more) (pos 0)) 15 [] i h (record { splits = refl }, tt)

@@ -1,4 +1,4 @@
--- The run of a plan, one segment after the other. Assumes nothing.
+-- The run of a plan, one segment after the other.
 use mathlib.Core.List.{List, _++_}
 use mathlib.Core.Path.{_≡_, refl, sym, ap, _∙_}
 use Prim.Native.Nat.{ℕ, _+_, _≤_, _<_}
@@ -21,21 +21,32 @@ abbrev pub snapsFrom : Durations → Levels → (i : ℕ) → List ℤ
 snapsFrom d levels i = snapsOf (drop i (segmentsOf d)) (levels .up) (levels .down)
 
 -- segment i comes next, and what is left comes to the same as the whole
-pub record SegmentsLeft {S E : Type 0} (w : Writer S E) (d : Durations) (levels : Levels) (s₀ : S) (table₀ : List E) (i : ℕ) (s : S) (table : List E) : Type 0 where
+pub record SegmentsLeft
+    {S E : Type 0} (w : Writer S E) (d : Durations) (levels : Levels) (s₀ : S) (table₀ : List E) (i : ℕ) (s : S) (table : List E)
+    : Type 0 where
   pub number : i ≤ 16
   pub remaining : Remaining w (snapsFrom d levels i) s table (snapsFrom d levels 0) s₀ table₀
 
 -- the segments are those of the plan
-module _ {X : ℤ} {a b c e D more : ℕ} {d : Durations} {levels : Levels} (h : WithinRange a b c e D) (lengths : IsDurations a b c e more d) (sizes : AreLevels X D levels) where
-  whole-run : snapsFrom d levels 0 ≡ run X a b c e D h more
-  whole-run = rw (sizes .up-is, sizes .down-is, lengths .p-is, lengths .q-is, lengths .r-is, lengths .s-is, lengths .rest-is) refl
+module _
+    {X : ℤ} {a b c e D more : ℕ} {d : Durations} {levels : Levels}
+    (h : WithinRange a b c e D) (lengths : IsDurations a b c e more d) (sizes : AreLevels X D levels)
+  where
+    whole-run : snapsFrom d levels 0 ≡ run X a b c e D h more
+    whole-run = rw (sizes .up-is, sizes .down-is, lengths .p-is, lengths .q-is, lengths .r-is, lengths .s-is, lengths .more-is) refl
 
-  module _ {S E : Type 0} {w : Writer S E} where
-    pub first-segment : {s : S} {table : List E} → CanRun w (run X a b c e D h more) s (length table) → SegmentsLeft w d levels s table 0 s table
-    first-segment can = record { number = omega arith; remaining = all-left (rw whole-run can) }
+    module _ {S E : Type 0} {w : Writer S E} where
+      pub first-segment :
+          {s : S} {table : List E}
+          → CanRun w (run X a b c e D h more) s (length table)
+          → SegmentsLeft w d levels s table 0 s table
+      first-segment can = record { number = omega arith; remaining = all-left (rw whole-run can) }
 
-    pub plan-ran : {s end : S} {old new : List E} → Ran w (snapsFrom d levels 0) s old new end → Ran w (run X a b c e D h more) s old new end
-    plan-ran r = rw whole-run at r
+      pub plan-ran :
+          {s end : S} {old new : List E}
+          → Ran w (snapsFrom d levels 0) s old new end
+          → Ran w (run X a b c e D h more) s old new end
+      plan-ran r = rw whole-run at r
 
 module _
     {S E : Type 0} {w : Writer S E} {d : Durations} {levels : Levels} {s₀ s : S} {table₀ table : List E} {i : ℕ}
@@ -52,7 +63,11 @@ module _
       pub segment-can-run : CanRun w (replicate (g .samples) x) s (length table)
       segment-can-run = can-part _ _ parted
 
-      pub next-segment : {t : S} {new : List E} → i < 16 → Ran w (replicate (g .samples) x) s table new t → SegmentsLeft w d levels s₀ table₀ (i + 1) t new
+      pub next-segment :
+          {t : S} {new : List E}
+          → i < 16
+          → Ran w (replicate (g .samples) x) s table new t
+          → SegmentsLeft w d levels s₀ table₀ (i + 1) t new
       next-segment l r = record { number = omega arith; remaining = part-done _ _ parted r }
 
     pub all-ran : 16 ≤ i → Ran w (snapsFrom d levels 0) s₀ table₀ table s

@@ -1,4 +1,4 @@
--- Steps from rest. Assumes nothing.
+-- Steps from rest.
 use mathlib.Core.Path.{_≡_, refl, sym, ap, ap₂, _∙_}
 use Prim.Native.Nat.{ℕ, _+_}
 use native.Mathlib.Numerals.{add-one}
@@ -7,7 +7,7 @@ use Rattle.profile.specs.Sums.{sum, sums}
 use Rattle.motion.specs.declared.state.State.{State}
 use Rattle.motion.specs.Inner.Steps.{stepped, rest, stateAt}
 
-pub first : (f : ℕ → ℤ) → rest ≡ stateAt f 0
+first : (f : ℕ → ℤ) → rest ≡ stateAt f 0
 unfolding sum sums
 first f = refl
 

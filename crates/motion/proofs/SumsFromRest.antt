@@ -1,19 +1,13 @@
--- Document 01, demand 3, "Sums from rest", in the direction of X. Assumes nothing.
-use mathlib.Core.Path.{_≡_, refl, ap, _∙_}
+-- Document 01, demand 3, "Sums from rest", in the direction of X.
+use mathlib.Core.Path.{_≡_, ap, _∙_}
 use Prim.Native.Nat.{ℕ, _+_}
 use native.Mathlib.Numerals.{add-one}
-use lib.IntN.{ℤ, pos, negsuc, _+ℤ_, negℤ-+ℤ}
+use lib.IntN.{ℤ, pos, _+ℤ_}
+use Rattle.planner.specs.Direction.{along}
+use Rattle.planner.proofs.DirectionLaws.{along-zero, along-sum}
 use Rattle.profile.specs.Sums.{sum}
 use Rattle.profile.specs.Profile as profile
 use Rattle.motion.specs.Direction as direction
-use Rattle.planner.specs.Direction.{along}
-use Rattle.planner.proofs.DirectionLaws.{along-zero}
-
--- the direction, on sums
-along-sum : (X x y : ℤ) → along X (x +ℤ y) ≡ along X x +ℤ along X y
-unfolding along
-along-sum (pos n) x y = refl
-along-sum (negsuc n) x y = negℤ-+ℤ x y
 
 -- each value at k+1 is its value at k plus the next higher derivative at k
 module _ (X : ℤ) (a b c e D : ℕ) where
@@ -25,11 +19,15 @@ module _ (X : ℤ) (a b c e D : ℕ) where
   unfolding direction.jerk direction.snap profile.jerk
   jerk-sum k = one-sum _ k
 
-  pub acceleration-sum : (k : ℕ) → direction.acceleration X a b c e D (k + 1) ≡ direction.acceleration X a b c e D k +ℤ direction.jerk X a b c e D k
+  pub acceleration-sum :
+      (k : ℕ)
+      → direction.acceleration X a b c e D (k + 1) ≡ direction.acceleration X a b c e D k +ℤ direction.jerk X a b c e D k
   unfolding direction.acceleration direction.jerk profile.acceleration
   acceleration-sum k = one-sum _ k
 
-  pub velocity-sum : (k : ℕ) → direction.velocity X a b c e D (k + 1) ≡ direction.velocity X a b c e D k +ℤ direction.acceleration X a b c e D k
+  pub velocity-sum :
+      (k : ℕ)
+      → direction.velocity X a b c e D (k + 1) ≡ direction.velocity X a b c e D k +ℤ direction.acceleration X a b c e D k
   unfolding direction.velocity direction.acceleration profile.velocity
   velocity-sum k = one-sum _ k
 

@@ -1,10 +1,11 @@
--- The whole run of a plan: it can be made, segment by segment, and it leaves its rows in the table. Assumes nothing.
+-- The whole run of a plan: it can be made, segment by segment, and it leaves its rows in the table.
 use mathlib.Core.List.{List, [], _∷_, _++_}
 use mathlib.Core.Path.{_≡_, sym, ap, _∙_}
 use Prim.Native.Nat.{ℕ, _+_, _≤_, _<_}
 use native.Mathlib.Omega.{arith}
 use lib.IntN.{ℤ}
 use lib.ListN.{length, drop}
+use Rattle.planner.specs.Direction.{along}
 use Rattle.planner.specs.Durations.{p, q, r, s, N}
 use Rattle.profile.specs.Segments.{none, Segment, segment, segments}
 use Rattle.profile.specs.Profile as profile
@@ -13,10 +14,9 @@ use Rattle.profile.proofs.Lookup.{samples, samples-append, snap-rested}
 use Rattle.profile.proofs.SwitchedLaws.{samples-switched}
 use Rattle.profile.proofs.FourthOrder.{fifteen}
 use Rattle.motion.specs.Direction as direction
-use Rattle.planner.specs.Direction.{along}
 use Rattle.motion.specs.Tables.{rowsFrom}
 use Rattle.motion.specs.Inner.Runs.{Writer, CanRun, Ran}
-use Rattle.motion.specs.Inner.SegmentSnaps.{withRest}
+use Rattle.motion.specs.Inner.SegmentSnaps.{withMore}
 use Rattle.motion.specs.Inner.Planned.{WithinRange, RowsIn}
 use Rattle.motion.proofs.OrderedLaws.{spread}
 use Rattle.motion.proofs.ListedLaws.{Listed, directedSnaps, length-snaps, listed}
@@ -28,7 +28,7 @@ module _ (X : ℤ) (a b c e D : ℕ) (h : WithinRange a b c e D) where
 
   -- and a segment without snap for the rows after them
   abbrev all : (more : ℕ) → List Segment
-  all more = withRest (p a) (q a b) (r a b c) (s a b c e) more
+  all more = withMore (p a) (q a b) (r a b c) (s a b c e) more
 
   abbrev pub run : (more : ℕ) → List ℤ
   run more = directedSnaps X D (all more)
@@ -39,7 +39,8 @@ module _ (X : ℤ) (a b c e D : ℕ) (h : WithinRange a b c e D) where
   run-length : (more : ℕ) → length (run more) ≡ N a b c e + more
   unfolding span samples
   run-length more =
-      let plan : samples fifteenSegments ≡ N a b c e = ap samples (fifteen a b c e) ∙ samples-switched a (e ∷ c ∷ b ∷ []) (spread (h .ordered)) in
+      let plan : samples fifteenSegments ≡ N a b c e =
+      ap samples (fifteen a b c e) ∙ samples-switched a (e ∷ c ∷ b ∷ []) (spread (h .ordered)) in
       omega (arith, plan, length-snaps X D (all more), samples-append fifteenSegments (segment more none ∷ []))
 
   run-listed : (more : ℕ) → Listed (run more) snap 0
@@ -48,7 +49,11 @@ module _ (X : ℤ) (a b c e D : ℕ) (h : WithinRange a b c e D) where
 
   -- the rows of a table that is written along the plan
   module _ {S E : Type 0} {w : Writer S E} {at : ℕ → S} (carries : Carries w snap at) (more : ℕ) where
-    pub can-run : {places : ℕ} → ((i : ℕ) → i < N a b c e + more → w .Fits (at i) (snap i)) → N a b c e + more ≤ places → CanRun w (run more) (at 0) places
+    pub can-run :
+        {places : ℕ}
+        → ((i : ℕ) → i < N a b c e + more → w .Fits (at i) (snap i))
+        → N a b c e + more ≤ places
+        → CanRun w (run more) (at 0) places
     can-run fits l =
         record {
           room = omega (arith, run-length more, carries .place-is 0);

@@ -35,6 +35,7 @@ pub struct Sample {
 }
 
 // A two-mass machine, in the paper's names: masses m1 and m2, dampings k1, k2 and k12, stiffness c. Time is in samples.
+#[repr(C)]
 pub struct Machine {
     pub m1: f64,
     pub m2: f64,
@@ -88,7 +89,7 @@ pub fn fill_positions(m: Move, table: &mut [i64]) -> TableAnswer
     write_positions(table, m.displacement, plan)
 }
 
-// Fills a table with the reference rows of a move at samples 0 to N, for the feedback loop. Today they are its positions.
+// Fills a table with the reference rows of a move at samples 0 to N, for the feedback loop. By the rule they are its positions.
 pub fn fill_reference(m: Move, table: &mut [i64]) -> TableAnswer
     ensures { λ r. ⌜ FillsReference (m .displacement) (m .velocity) (m .acceleration) (m .jerk) (m .snap) (now (table .entry)) (tableOutcome r) (now (table .exit)) ⌝ }
 {

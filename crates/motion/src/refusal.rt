@@ -1,4 +1,4 @@
-// Refusals.
+// What an entry answers where the planner gives no plan.
 use crate::MotionRefusal;
 use planner::PlanAnswer;
 ghost use mathlib.Core.Path.{_≡_};

@@ -11,19 +11,19 @@ pub(crate) struct Durations {
     pub q: u64,
     pub r: u64,
     pub s: u64,
-    pub rest: u64,
+    pub more: u64,
 }
 
-pub(crate) fn durations_of(plan: Plan, rest: u64) -> Durations
+pub(crate) fn durations_of(plan: Plan, more: u64) -> Durations
     requires { ⌜ Ordered (plan .a) (plan .b) (plan .c) (plan .e) ⌝ }
-    ensures { λ d. ⌜ IsDurations (plan .a) (plan .b) (plan .c) (plan .e) rest d ⌝ }
+    ensures { λ d. ⌜ IsDurations (plan .a) (plan .b) (plan .c) (plan .e) more d ⌝ }
 {
     Durations {
         p: plan.a,
         q: plan.b - plan.a,
         r: plan.c - plan.a - plan.b,
         s: plan.e - plan.a - plan.b - plan.c,
-        rest,
+        more,
     }
 }
 
@@ -34,7 +34,7 @@ pub(crate) struct Segment {
 }
 
 // Segment i, from 0 to 14. They last p q p r p q p s p q p r p q p samples, with the signs + 0 − 0 − 0 + 0 − 0 + 0 + 0 −. Segment 15 is
-// the rest, so that a table is filled by one loop with one call.
+// the rows after them, so that a table is filled by one loop with one call.
 pub(crate) fn segment_at(d: Durations, levels: Levels, i: u64) -> Segment
     requires { ⌜ i < 16 ⌝ }
     ensures { λ g. ⌜ NextSegment d levels i g ⌝ }
@@ -57,7 +57,7 @@ pub(crate) fn segment_at(d: Durations, levels: Levels, i: u64) -> Segment
             snap: 0,
         },
         15 => Segment {
-            samples: d.rest,
+            samples: d.more,
             snap: 0,
         },
         _ => Segment {

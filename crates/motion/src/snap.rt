@@ -1,4 +1,4 @@
-// The snap at a sample.
+// The snap by the widths of the intervals. At any one sample it is found without the list of segments.
 use planner::Plan;
 ghost use mathlib.Core.List.{[], _∷_};
 ghost use mathlib.Core.Path.{_≡_};

@@ -15,7 +15,7 @@ ghost use Rattle.profile.specs.Widths.{snapBy};
 ghost use Rattle.motion.specs.Inner.Steps.{stateAt, StepsFitBy};
 ghost use Rattle.motion.specs.Inner.Planned.{PlanInRange, samplesIn, SampleOf};
 
-// The state at sample k.
+// By k steps from rest, with the snap looked up at each.
 fn sum_to(plan: Plan, levels: Levels, k: u64) -> State
     requires { ⌜ StepsFitBy (snapBy (plan .a) (plan .e ∷ plan .c ∷ plan .b ∷ []) (levels .up) (levels .down)) k ⌝ }
     ensures { λ r. ⌜ r ≡ stateAt (snapBy (plan .a) (plan .e ∷ plan .c ∷ plan .b ∷ []) (levels .up) (levels .down)) k ⌝ }
@@ -28,7 +28,7 @@ fn sum_to(plan: Plan, levels: Levels, k: u64) -> State
     state
 }
 
-// The values at sample k.
+// The four sums at sample k with the snap there and the count of the position.
 pub(crate) fn sample_in_plan(displacement: i64, plan: Plan, k: u64) -> Sample
     requires { ⌜ PlanInRange plan ⌝ }
     requires { ⌜ k ≤ samplesIn plan ⌝ }

@@ -1,5 +1,4 @@
 -- Demand 2: "a move is accepted if its figures are in range and its rule needs at most 4,096 samples, and otherwise not".
--- Assumes nothing.
 use mathlib.Core.Path.{_≡_, refl, sym, subst, _∙_}
 use mathlib.Core.Bool.{Bool, true, false}
 use mathlib.Core.List.{List, _∷_}

@@ -1,4 +1,4 @@
--- Different answers of the planner have different outcomes. Assumes nothing.
+-- Different answers of the planner have different outcomes.
 use mathlib.Core.Path.{_≡_, refl, sym, ap, _∙_}
 use Prim.Native.Nat.{ℕ, zero, suc, _≤_}
 use native.Mathlib.Omega.{arith}
@@ -9,6 +9,7 @@ use Rattle.planner.specs.declared.Refusal.the-variants.{NoDisplacement, 
 use Rattle.planner.specs.declared.Plan.{Plan}
 use Rattle.planner.specs.declared.PlanAnswer.{PlanAnswer}
 use Rattle.planner.specs.declared.PlanAnswer.the-variants.{Planned, Refused}
+use Rattle.planner.proofs.Clash.{clash}
 
 -- the refusal that a number from 1 to 7 names
 refusal : ℕ → Refusal
@@ -54,7 +55,7 @@ same-plan x y h =
     λ i. record { a = a i; b = b i; c = c i; e = e i; snap = snap i; shortfall = shortfall i }
 
 apart : {n a b c e D short : ℕ} → refused n ≡ planned a b c e D short → ⊥
-apart h = let z : _≡_ {A = ℕ} 0 1 = cc in omega arith
+apart h = clash cc
 
 pub outcome-injective : (x y : PlanAnswer) → outcome x ≡ outcome y → x ≡ y
 outcome-injective (Planned x) (Planned y) h = ap Planned (same-plan x y h)

@@ -1,5 +1,4 @@
 -- Laws of the intervals of a move: their order, their durations, and the bounds that the snap keeps.
--- Assumes nothing.
 use mathlib.Core.Path.{_≡_}
 use Prim.Native.Nat.{ℕ, _+_, _-_, _*_, _≤_, min}
 use native.Mathlib.Nat.{le-trans, le-of-eq, mul-pos, mul-assoc, le-of-mul-le-mul-right, div-mul-le-self, le-max-left}

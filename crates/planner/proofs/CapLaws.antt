@@ -1,5 +1,4 @@
 -- From the searches' capped numbers to the rule's intervals: each agrees with its rule as far as 4,096, and so do their sums.
--- Assumes nothing.
 use mathlib.Core.Path.{_≡_, refl, sym, ap, ap₂, subst, _∙_}
 use mathlib.Core.Bool.{Bool}
 use mathlib.Core.Logic.{_⊎_, inl, inr, ⊎-elim}

@@ -1,5 +1,4 @@
 -- The division that takes a bound to the other side: t ≤ k·x where ⌈t/k⌉ ≤ x.
--- Assumes nothing.
 use mathlib.Core.Path.{_≡_, sym, ap, _∙_}
 use mathlib.Core.Logic.{_↔_}
 use Prim.Native.Nat.{ℕ, suc, suc-le-suc, _+_, _-_, _*_, _/_, _≤_, _<_}

@@ -1,5 +1,4 @@
 -- The ten properties of the paper have the form that the search takes, t ≤ k·n·(u+n)^d.
--- Assumes nothing.
 use mathlib.Core.Path.{_≡_, sym, ap, fun-ext, _∙_}
 use mathlib.Core.Bool.{Bool}
 use Prim.Native.Nat.{ℕ, suc, _+_, _*_, _^_}

@@ -1,5 +1,4 @@
 -- Laws of `least`: where the property holds at 2^60, `least` gives the least number that has it.
--- Assumes nothing.
 use mathlib.Core.Path.{_≡_, refl, sym, subst, _∙_}
 use mathlib.Core.Bool.{Bool, true, false}
 use mathlib.Core.Logic.{⊎-elim}

@@ -1,4 +1,5 @@
 -- Laws that the proofs of the code cite: the search, its form, the cap, the sign and the checks.
+pub mod Clash
 pub mod LeastLaws
 pub mod SpanLaws
 pub mod Ceiling

@@ -1,4 +1,4 @@
--- From "planned" to all that holds of a plan: what other crates use in place of the rules' own text. Assumes nothing.
+-- From "planned" to all that holds of a plan: what other crates use in place of the rules' own text.
 use mathlib.Core.Path.{_≡_, refl, subst, sym, _∙_}
 use Prim.Native.Nat.{ℕ, zero, suc, _+_, _-_, _*_, _/_, _≤_, _<_}
 use native.Mathlib.Nat.{le-trans, mul-le-mul-left, le-max-right, min-le-left, min-le-right, div-mul-le-self, div-add-mod', mod-lt}

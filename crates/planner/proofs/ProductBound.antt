@@ -1,5 +1,4 @@
 -- "With N ≤ 4,096, P is at most 2^39": with u = a+b and v = u+c, 4ab ≤ u², 4uc ≤ v², 2u ≤ v and 4ve ≤ N², so 32P ≤ v²·ve ≤ 2^44.
--- Assumes nothing.
 use Prim.Native.Nat.{ℕ, _+_, _*_, _^_, _≤_}
 use native.Mathlib.Nat.{mul-le-mul, mul-le-mul-left, mul-le-mul-right, mul-assoc, mul-comm, mul-add, add-mul, mul-left-comm, le-dest}
 use native.Mathlib.Omega.{arith}

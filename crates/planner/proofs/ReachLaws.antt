@@ -1,5 +1,4 @@
 -- Laws of n·(u+n)^d: small powers, bounds, growth with n, and what a search finds for it.
--- Assumes nothing.
 use mathlib.Core.Path.{_≡_, ap, subst, fun-ext, _∙_}
 use mathlib.Core.Bool.{Bool, true}
 use Prim.Native.Nat.{ℕ, zero, suc, _+_, _-_, _*_, _/_, _^_, _≤_, min, max}

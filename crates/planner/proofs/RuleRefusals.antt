@@ -1,4 +1,4 @@
--- The rule refuses with no number above 7. Assumes nothing.
+-- The rule refuses with no number above 7.
 use mathlib.Core.Bool.{true, false}
 use mathlib.Core.List.{List, [], _∷_}
 use mathlib.Core.Path.{_≡_}
@@ -7,6 +7,7 @@ use native.Mathlib.Omega.{arith}
 use lib.IntN.{ℤ}
 use Rattle.planner.specs.Quantities.{distance}
 use Rattle.planner.specs.Outcome.{Outcome, refused, Check, check, firstRefusal, checks, rulePlan, outcomeOf}
+use Rattle.planner.proofs.Clash.{clash}
 
 -- Every check has a number of at most `most`.
 abbrev Numbered : ℕ → List Check → Type 0
@@ -25,4 +26,4 @@ pub refused-most : (X : ℤ) (V₀ A₀ J₀ S₀ n : ℕ) → outcomeOf X V₀ 
 unfolding outcomeOf
 refused-most X V₀ A₀ J₀ S₀ =
     first-most 7 (checks X V₀ A₀ J₀ S₀) (rulePlan (distance X) V₀ A₀ J₀ S₀) (omega arith)
-    (λ n e. let z : _≡_ {A = ℕ} 0 1 = cc in omega arith)
+    (λ n e. absurd (clash cc))

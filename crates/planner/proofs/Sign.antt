@@ -1,5 +1,4 @@
 -- The size of a signed number, by its sign; and a size with a minus before it, as 64 bits hold it.
--- Assumes nothing.
 use mathlib.Core.Path.{_≡_, sym, ap}
 use mathlib.Core.Bool.{true, false, true≢false}
 use Prim.Native.Nat.{ℕ, zero, suc, _+_, _^_, _<_}
@@ -15,9 +14,9 @@ use mir.Val.{SFits, toZ}
 use mir.ValLaws.{toZ-pos}
 
 -- −1−x, for a negative x
-pub mirrored : (x : ℤ) → ltZ x (pos 0) ≡ true → negsuc 0 -ℤ x ≡ pos (mag x)
-mirrored (pos n) h = absurd (not-suc-le-zero (ltb-true n 0 h))
-mirrored (negsuc n) h = simp (le-ltb (suc n) 1 (omega arith)) (ap pos (omega arith))
+pub complement : (x : ℤ) → ltZ x (pos 0) ≡ true → negsuc 0 -ℤ x ≡ pos (mag x)
+complement (pos n) h = absurd (not-suc-le-zero (ltb-true n 0 h))
+complement (negsuc n) h = simp (le-ltb (suc n) 1 (omega arith)) (ap pos (omega arith))
 
 pub size-negative : (x : ℤ) → ltZ x (pos 0) ≡ true → natAbs x ≡ mag x + 1
 size-negative (pos n) h = absurd (not-suc-le-zero (ltb-true n 0 h))

@@ -1,5 +1,4 @@
 -- Laws of the search over a span: what it finds is `least`, and the span may be halved.
--- Assumes nothing.
 use mathlib.Core.Path.{_≡_, refl, sym, subst, _∙_}
 use mathlib.Core.Bool.{Bool, true, false, true≢false}
 use mathlib.Core.Logic.{⊎-elim}
@@ -11,8 +10,8 @@ use Rattle.planner.specs.Least.{IsLeast}
 use Rattle.planner.specs.Inner.Search.{LeastWithin}
 use Rattle.planner.proofs.LeastLaws.{Rising}
 
-clash : {b : Bool} → b ≡ true → b ≡ false → ⊥
-clash t f = true≢false (sym t ∙ f)
+not-both : {b : Bool} → b ≡ true → b ≡ false → ⊥
+not-both t f = true≢false (sym t ∙ f)
 
 -- what a search from lo to hi finds is `least`, but not below lo and not above hi
 pub within-least : (p : ℕ → Bool) (lo hi r m : ℕ) → Rising p → IsLeast p m → 1 ≤ lo → lo ≤ hi → LeastWithin p lo hi r → r ≡ max lo (min hi m)
@@ -20,10 +19,10 @@ within-least p lo hi r m up l one h w = by-order (decLe m r) (decLe r lo) (decLe
   where
     -- past lo, the number before r lacks the property
     not-after : m < r → lo < r → ⊥
-    not-after k j = clash (up m (r - 1) (omega arith) (l .holds)) (w .before (r - 1) (omega arith) (omega arith))
+    not-after k j = not-both (up m (r - 1) (omega arith) (l .holds)) (w .before (r - 1) (omega arith) (omega arith))
 
     not-before : r < m → r < hi → ⊥
-    not-before k j = clash (w .here j) (l .none-before r (omega (arith, w .low)) k)
+    not-before k j = not-both (w .here j) (l .none-before r (omega (arith, w .low)) k)
 
     by-order : Dec (m ≤ r) → Dec (r ≤ lo) → Dec (hi ≤ r) → r ≡ max lo (min hi m)
     by-order (yes k) (yes i) d = omega (arith, w .low, w .high)
@@ -56,7 +55,7 @@ within-right p lo mid hi r up l f w =
     }
   where
     not-below : (n : ℕ) → n ≤ mid → (b : Bool) → p n ≡ b → b ≡ false
-    not-below n h true e = absurd (clash (up n mid h e) f)
+    not-below n h true e = absurd (not-both (up n mid h e) f)
     not-below n h false e = refl
 
     before-by : (n : ℕ) → n < r → Dec (n ≤ mid) → p n ≡ false

@@ -1,4 +1,4 @@
--- The starred moves of document 01, all in one theorem, computed from the rules themselves. Assumes nothing.
+-- The starred moves of document 01, all in one theorem, computed from the rules themselves.
 use mathlib.Core.Path.{_≡_, refl}
 use mathlib.Core.List.{map}
 use Rattle.planner.specs.Quantities.{distance}

@@ -1,4 +1,4 @@
--- Each of the ten least numbers of a move in range is the least. Assumes nothing.
+-- Each of the ten least numbers of a move in range is the least.
 use mathlib.Core.Path.{_≡_, subst}
 use mathlib.Core.Bool.{Bool}
 use Prim.Native.Nat.{ℕ, _*_, _^_, _≤_, min}

@@ -12,13 +12,14 @@ ghost use Rattle.planner.specs.Outcome.{Plans};
 ghost use Rattle.planner.specs.Answer.{number, outcome};
 
 // Sub-count units in a count: the paper's G, in grains.
-const UNITS_PER_COUNT: u64 = 1_099_511_627_776;
+pub const UNITS_PER_COUNT: u64 = 1_099_511_627_776;
 
 // The farthest displacement, either way.
 const MOST_COUNTS: u64 = 1_048_576;
 
 // A move as it is sent: the displacement X in counts, and the bounds V, A, J and S on the size of
 // velocity, acceleration, jerk and snap, in sub-count units and samples.
+#[repr(C)]
 pub struct Move {
     pub displacement: i64,
     pub velocity: u64,

@@ -27,12 +27,12 @@ fn search(u: u64, d: u64, t: u64, lo: u64, hi: u64) -> u64
     if lo == hi {
         return lo;
     }
-    let mid = lo + (hi - lo) / 2;
+    let mid = (lo + hi) / 2;
     let reached = mid * power(u + mid, d);
-    if t <= reached {
-        search(u, d, t, lo, mid)
-    } else {
+    if reached < t {
         search(u, d, t, mid + 1, hi)
+    } else {
+        search(u, d, t, lo, mid)
     }
 }
 

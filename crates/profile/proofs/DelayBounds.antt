@@ -1,5 +1,4 @@
 -- Copies of a ramp that do not overlap differ by at most its top, and by nothing from the end of the last on.
--- Assumes nothing.
 use mathlib.Core.Path.{_≡_, sym}
 use mathlib.Core.List.{List, [], _∷_}
 use Prim.Native.Nat.{ℕ, _+_, _-_, _≤_}

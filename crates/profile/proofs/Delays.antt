@@ -1,5 +1,4 @@
 -- A function and another that is delayed by w samples, for each width w: their sums, and any two others with the same difference.
--- Assumes nothing.
 use mathlib.Core.Path.{_≡_, refl, ap₂, _∙_}
 use mathlib.Core.List.{List, [], _∷_, _++_}
 use Prim.Native.Nat.{ℕ, _+_, _-_}
@@ -8,7 +7,8 @@ use native.Mathlib.Omega.{arith}
 use Rattle.profile.specs.Widths.{total}
 use Rattle.profile.proofs.Totals.{total-late}
 
--- f, with g delayed by each width, and f delayed again by two; g comes to `delays ws g f`. Both start at 0, so that k - w is right before w too
+-- f, with g delayed by each width, and f delayed again by two; g comes to `delays ws g f`. Both start at 0, so that k - w is right
+-- before w too
 unfoldable pub delays : List ℕ → (f g : ℕ → ℕ) → ℕ → ℕ
 delays [] f g k = f k
 delays (w ∷ ws) f g k = delays ws f g k + delays ws g f (k - w)

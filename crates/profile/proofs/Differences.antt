@@ -1,5 +1,4 @@
 -- A signed number as D times the difference of two natural numbers: its sums, its size, its sign and its value.
--- Assumes nothing.
 use mathlib.Core.Path.{_≡_, refl, ap, _∙_}
 use mathlib.Core.Bool.{Bool, true, false, cond}
 use Prim.Native.Nat.{ℕ, zero, suc, _+_, _-_, _*_, _≤_}

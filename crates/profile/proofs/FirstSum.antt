@@ -1,5 +1,4 @@
 -- The first sum of the snap is D times the difference of the ramp of a samples, delayed by all widths.
--- Assumes nothing.
 use mathlib.Core.Path.{_≡_, refl, ap, _∙_}
 use mathlib.Core.Bool.{Bool, true, false, cond}
 use mathlib.Core.List.{List, [], _∷_}
@@ -19,7 +18,8 @@ use Rattle.profile.proofs.Delays.{delays}
 
 -- x is D times the difference of the inner ramp delayed by the outer widths
 abbrev pub DelayedRamp : (D a : ℕ) (outer inner : List ℕ) (x : ℕ → ℤ) → Type 0
-DelayedRamp D a outer inner x = (k : ℕ) → Difference D (x k) (delays outer (ramp a inner) (λ _. 0) k) (delays outer (λ _. 0) (ramp a inner) k)
+DelayedRamp D a outer inner x =
+    (k : ℕ) → Difference D (x k) (delays outer (ramp a inner) (λ _. 0) k) (delays outer (λ _. 0) (ramp a inner) k)
 
 module _ (a D : ℕ) where
   -- one more of the first a samples, or none

@@ -1,5 +1,4 @@
 -- The fifteen segments are the switched ones of e, c and b around a, so what is true of any list of widths is true of the profile.
--- Assumes nothing.
 use mathlib.Core.Path.{_≡_, ap, _∙_}
 use mathlib.Core.List.{[], _∷_}
 use Prim.Native.Nat.{ℕ, _+_, _-_, _*_, _≤_}

@@ -1,5 +1,5 @@
 -- How far the profile stays behind the exact one where the snap is rounded down: by what that leaves of the distance, times the
--- position of a unit snap. Assumes nothing.
+-- position of a unit snap.
 use mathlib.Core.Path.{_≡_, sym, ap, _∙_}
 use mathlib.Core.List.{List}
 use Prim.Native.Nat.{ℕ, _+_, _*_, _≤_, _<_}
@@ -17,5 +17,9 @@ module _ (a : ℕ) (ws : List ℕ) (W D short : ℕ) (whole : D * product a ws +
 
   pub behind-half : (half : ℕ) → short < product a ws → product a ws ≤ half → 2 * (short * ramp a ws k) < 2 * (half * product a ws)
   behind-half half below most =
-      omega
-      (arith, mul-le-mul-left short (ramp-top a ws k), mul-le-mul-right (product a ws) (le-trans below most), add-mul short 1 (product a ws))
+      omega (
+        arith,
+        mul-le-mul-left short (ramp-top a ws k),
+        mul-le-mul-right (product a ws) (le-trans below most),
+        add-mul short 1 (product a ws),
+      )

@@ -1,5 +1,4 @@
 -- Where a sample lies in a list of segments: in the first or after it, in the first of two joined lists or after it, or past all.
--- Assumes nothing.
 use mathlib.Core.Path.{_≡_, refl, sym, ap, _∙_}
 use mathlib.Core.Bool.{Bool, true, false, cond}
 use mathlib.Core.List.{List, [], _∷_, _++_, append-nil}

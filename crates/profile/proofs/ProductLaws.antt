@@ -1,7 +1,7 @@
--- The product of the inner intervals is at most the product of all. Assumes nothing.
+-- The product of the inner intervals is at most the product of all.
 use mathlib.Core.Path.{subst}
 use mathlib.Core.List.{List, [], _∷_, _++_}
-use Prim.Native.Nat.{ℕ, _+_, _*_, _≤_}
+use Prim.Native.Nat.{ℕ, _*_, _≤_}
 use native.Mathlib.Nat.{le-refl, le-trans, mul-one, mul-le-mul-left}
 use native.Mathlib.Omega.{arith}
 use Rattle.profile.specs.Widths.{span, product, Spread}

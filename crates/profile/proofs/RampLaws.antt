@@ -1,5 +1,4 @@
 -- A ramp starts at 0, never falls, and holds its top from its end on. Its sum over the last w samples is a ramp again.
--- Assumes nothing.
 use mathlib.Core.Path.{_≡_, ap}
 use mathlib.Core.List.{List, [], _∷_}
 use Prim.Native.Nat.{ℕ, suc, _+_, _-_, _*_, _≤_}

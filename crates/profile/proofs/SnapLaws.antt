@@ -1,5 +1,4 @@
 -- Laws of the snap in any list of segments: its size, and what a change of all signs does.
--- Assumes nothing.
 use mathlib.Core.Path.{_≡_, refl, sym, ap₂, _∙_}
 use mathlib.Core.Bool.{Bool, true, false, cond}
 use mathlib.Core.List.{List, [], _∷_}

@@ -1,5 +1,4 @@
 -- Laws of the sums from rest: of equal functions, of a negated one, and of one that goes on with another after w samples.
--- Assumes nothing.
 use mathlib.Core.Path.{_≡_, refl, sym, ap, fun-ext, _∙_}
 use mathlib.Core.Bool.{Bool, cond}
 use Prim.Native.Nat.{ℕ, zero, suc, _-_, _≤_}

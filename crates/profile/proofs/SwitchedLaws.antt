@@ -1,5 +1,4 @@
 -- Laws of the switched segments: how long they are, when they rest, and their snap at a sample by the widths.
--- Assumes nothing.
 use mathlib.Core.Path.{_≡_, refl, sym, ap, ap₂, _∙_}
 use mathlib.Core.Bool.{Bool, true, false, cond}
 use mathlib.Core.List.{List, [], _∷_}

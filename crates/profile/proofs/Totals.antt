@@ -1,5 +1,4 @@
 -- Laws of `total`: it never falls, it grows evenly where its summand holds, and a late start stays late.
--- Assumes nothing.
 use mathlib.Core.Path.{_≡_, refl}
 use Prim.Native.Nat.{ℕ, zero, suc, _+_, _-_, _*_, _≤_}
 use native.Mathlib.Nat.{le-refl, zero-sub, add-suc, add-zero, mul-suc, mul-zero}

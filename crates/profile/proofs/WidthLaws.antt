@@ -1,5 +1,4 @@
 -- The sums of the snap over any list of widths: their size, their rest, and the last as a ramp that never falls.
--- Assumes nothing.
 use mathlib.Core.Path.{_≡_, refl}
 use mathlib.Core.List.{List, [], _∷_, _++_}
 use Prim.Native.Nat.{ℕ, suc, _-_, _*_, _≤_}
@@ -20,7 +19,7 @@ use Rattle.profile.proofs.FirstSum.{DelayedRamp, first-sum}
 use Rattle.profile.proofs.LaterSums.{later-sums}
 
 -- one sum more than there are inner widths
-pub sums-delayed :
+sums-delayed :
     (a : ℕ) (outer inner : List ℕ)
     → Spread a (outer ++ inner)
     → (D : ℕ)

@@ -2,13 +2,13 @@
 use mathlib.Core.List.{List}
 use mathlib.Core.Path.{_≡_, refl, sym, ap, _∙_}
 use Prim.Native.Nat.{ℕ}
+use Rattle.planner.proofs.Clash.{clash}
 use Rattle.route_sheet.specs.Answer.{Held, Counts, refusal, result, held, ReadsSheet}
 use Rattle.route_sheet.specs.declared.SheetRefusal.{SheetRefusal}
 use Rattle.route_sheet.specs.declared.SheetRefusal.the-variants.{Malformed, TooLong}
 use Rattle.route_sheet.specs.declared.SheetAnswer.{SheetAnswer}
 use Rattle.route_sheet.specs.declared.SheetAnswer.the-variants.{Listed, Refused}
 use Rattle.route_sheet.specs.declared.SheetReading.{SheetReading}
-use Rattle.route_sheet.proofs.Clash.{clash}
 
 refusal-injective : (x y : SheetRefusal) → refusal {A = Counts} x ≡ refusal y → x ≡ y
 refusal-injective (Malformed k) (Malformed l) e = let same : k ≡ l = cc in ap Malformed same

@@ -36,7 +36,7 @@ module _ (b p q r s : ℕ) where
       let (low, high) = and-parts (leb p q) (leb r s) k in
       record { from = leb-true 48 b from; to = leb-true b 57 to; low = leb-true p q low; high = leb-true r s high }
 
-  pub passed : Passes b p q r s → test ≡ true
+  passed : Passes b p q r s → test ≡ true
   passed h = rw (le-leb 48 b (h .from), le-leb b 57 (h .to), le-leb p q (h .low), le-leb r s (h .high))
 
   pub failed : (Passes b p q r s → ⊥) → test ≡ false
@@ -61,7 +61,8 @@ not-end b end plain from to e = true≢false (sym (rw (le-leb 48 b, le-leb b 57)
 
 -- The first byte of a number.
 module _ (least most end b : ℕ) (s : List ℕ) where
-  pub number-start : Passes b least (digitValue b) (digitValue b) most → readNumber least most end (b ∷ s) ≡ readDigits most end (digitValue b) s
+  pub number-start :
+      Passes b least (digitValue b) (digitValue b) most → readNumber least most end (b ∷ s) ≡ readDigits most end (digitValue b) s
   unfolding readNumber
   number-start h = rw (passed b least (digitValue b) (digitValue b) most h)
 
@@ -75,7 +76,8 @@ module _ (most end n b : ℕ) (s : List ℕ) where
   unfolding readDigits
   digits-end e = rw (eq-eqb b end e)
 
-  pub digits-next : (b ≡ end → ⊥) → Passes b 1 n (withDigit n b) most → readDigits most end n (b ∷ s) ≡ readDigits most end (withDigit n b) s
+  pub digits-next :
+      (b ≡ end → ⊥) → Passes b 1 n (withDigit n b) most → readDigits most end n (b ∷ s) ≡ readDigits most end (withDigit n b) s
   unfolding readDigits
   digits-next e h = rw (ne-eqb b end e, passed b 1 n (withDigit n b) most h)
 

@@ -11,7 +11,7 @@ use lib.Dec.{eqb}
 use Rattle.route_sheet.specs.Text.{lineEnds}
 use Rattle.route_sheet.specs.Reading.{Got, got, stuck}
 use Rattle.route_sheet.proofs.TextLaws.{lineEnds-append}
-use Rattle.route_sheet.proofs.FormatLaws.{Tells, Format, begins-none, some-value, halt-at-end}
+use Rattle.route_sheet.proofs.FormatLaws.{ReadingTells, Format, begins-none, some-value, halt-at-end}
 
 -- A text with a first byte other than the mark.
 pub record Unmarked (mark : ℕ) (text : List ℕ) : Type 0 where
@@ -58,7 +58,7 @@ module _ {C : Type 0} {mark : ℕ} {text text₁ : C → List ℕ} {ok ok₁ ok�
             let u = w .unmarked c k in
             rw (u .text-is, read-unmarked (u .byte) (u .rest ++ rest) (u .other)) (rw (u .text-is) at (two .back c k rest))
 
-    in-one : (s : List ℕ) (x : Got C) → Tells text₁ ok₁ s x → Tells text ok (mark ∷ s) x
+    in-one : (s : List ℕ) (x : Got C) → ReadingTells text₁ ok₁ s x → ReadingTells text ok (mark ∷ s) x
     in-one s (got c rest) k = record { allowed = w .ok-one c (k .allowed); text-is = cc (w .marked c (k .allowed), k .text-is) }
     in-one s (stuck lines) h =
         let b = h .begins in
@@ -83,7 +83,7 @@ module _ {C : Type 0} {mark : ℕ} {text text₁ : C → List ℕ} {ok ok₁ ok�
         go x more at c r same (inl k) = h .blocked x more at c k r (cc (w .marked c k))
         go x more at c r same (inr k) = let u = w .unmarked c k in u .other (cc (u .text-is))
 
-    in-two : (b : ℕ) (s : List ℕ) → (b ≡ mark → ⊥) → (x : Got C) → Tells text ok₂ (b ∷ s) x → Tells text ok (b ∷ s) x
+    in-two : (b : ℕ) (s : List ℕ) → (b ≡ mark → ⊥) → (x : Got C) → ReadingTells text ok₂ (b ∷ s) x → ReadingTells text ok (b ∷ s) x
     in-two b s other (got c rest) k = record { allowed = w .ok-two c (k .allowed); text-is = k .text-is }
     in-two b s other (stuck lines) h =
         let f = h .begins in
@@ -106,12 +106,12 @@ module _ {C : Type 0} {mark : ℕ} {text text₁ : C → List ℕ} {ok ok₁ ok�
     unfolding lineEnds
     choice = record { back = back; tells = tells }
       where
-        tells : (t : List ℕ) → Tells text ok t (read t)
+        tells : (t : List ℕ) → ReadingTells text ok t (read t)
         tells [] =
             let f = some-value one in
             rw (reads .at-end) (halt-at-end (begins-none (f .value) (w .ok-one (f .value) (f .allowed))) refl)
         tells (b ∷ s) = go (ℕ-discrete b mark)
           where
-            go : Dec (b ≡ mark) → Tells text ok (b ∷ s) (read (b ∷ s))
+            go : Dec (b ≡ mark) → ReadingTells text ok (b ∷ s) (read (b ∷ s))
             go (yes e) = rw (read-marked b s e, e) (in-one s (read₁ s) (one .tells s))
             go (no e) = rw (read-unmarked b s e) (in-two b s e (read₂ (b ∷ s)) (two .tells (b ∷ s)))

@@ -14,7 +14,7 @@ use Rattle.route_sheet.specs.SheetText.{sheetText}
 use Rattle.route_sheet.specs.Result.{Result, mostBytes, tooLong, malformed}
 use Rattle.route_sheet.specs.Beginning.{LongestBeginning, NoSheet, ComesTo, too-long, listed, malformed-at}
 use Rattle.route_sheet.specs.Reading.{Got, got, stuck, readSections, resultOf, readSheet}
-use Rattle.route_sheet.proofs.FormatLaws.{Halt, Tells, never}
+use Rattle.route_sheet.proofs.FormatLaws.{Halt, ReadingTells, not-both}
 use Rattle.route_sheet.proofs.SheetLaws.{sections-format, sheet-lines}
 use Rattle.route_sheet.proofs.StopLaws.{halt-at-spare, longest}
 
@@ -37,12 +37,12 @@ module _ (t : List ℕ) (fits : length t ≤ mostBytes) where
             longest h other after e (record { value = c .sheet; allowed = c .allowed; rest = c .rest; whole = c .whole });
       }))
 
-  sections-sound : (x : Got Sheet) → readSections t ≡ x → Tells sheetText SheetAllowed t x → ComesTo t (resultOf x)
+  sections-sound : (x : Got Sheet) → readSections t ≡ x → ReadingTells sheetText SheetAllowed t x → ComesTo t (resultOf x)
   unfolding resultOf
   sections-sound (got x []) e w = listed fits (w .allowed) (w .text-is ∙ append-nil (sheetText x))
   sections-sound (got x (b ∷ s)) e w =
       rw (← sheet-lines x) (stops (λ y k. nil≢cons {x = b} {xs = s} (cc)) (halt-at-spare sections-format w))
-  sections-sound (stuck lines) e h = stops (λ x k. never k e) h
+  sections-sound (stuck lines) e h = stops (λ x k. not-both k e) h
 
 pub sound : (t : List ℕ) → ComesTo t (readSheet t)
 unfolding readSheet

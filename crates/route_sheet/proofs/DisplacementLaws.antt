@@ -14,12 +14,12 @@ use Rattle.route_sheet.specs.Reading.{got, thenRead, readNumber, readDis
 use Rattle.route_sheet.proofs.DecimalLaws.{decimal-digit, decimal-more, by-digits}
 use Rattle.route_sheet.proofs.TextLaws.{lineEnds-append}
 use Rattle.route_sheet.proofs.FormatLaws.{Format}
-use Rattle.route_sheet.proofs.CarriedLaws.{carried}
+use Rattle.route_sheet.proofs.MappedFormats.{mapped}
 use Rattle.route_sheet.proofs.ChoiceLaws.{Unmarked, Sides, choice}
 use Rattle.route_sheet.proofs.NumberLaws.{decimal-lines, number-format}
 
 -- The text of X, and of its size.
-abbrev pub displacementText : ℤ → List ℕ
+abbrev displacementText : ℤ → List ℕ
 displacementText x = ended space (signedDecimal x)
 
 abbrev sizeText : ℤ → List ℕ
@@ -39,7 +39,7 @@ Natural (negsuc n) = ⊥
 
 negative-format : Format sizeText Negative (λ t. thenRead 0 (readNumber 1 mostDisplacement space t) λ n rest. got (negℤ (pos n)) rest)
 negative-format =
-    carried 0 (number-format 1 mostDisplacement space (omega arith) refl (omega arith))
+    mapped 0 (number-format 1 mostDisplacement space (omega arith) refl (omega arith))
     (record { made-ok = made-ok; made-text = made-text; part = λ x h. natAbs x; part-ok = part-ok; part-makes = part-makes })
   where
     made-ok : (n : ℕ) → Within 1 mostDisplacement n → Negative (negℤ (pos n))
@@ -61,7 +61,7 @@ negative-format =
 natural-format : Format displacementText Natural (λ t. thenRead 0 (readNumber 0 mostDisplacement space t) λ n rest. got (pos n) rest)
 unfolding signedDecimal
 natural-format =
-    carried 0 (number-format 0 mostDisplacement space (omega arith) refl (omega arith))
+    mapped 0 (number-format 0 mostDisplacement space (omega arith) refl (omega arith))
     (record { made-ok = λ n h. h .to; made-text = λ n h. refl; part = λ x h. natAbs x; part-ok = part-ok; part-makes = part-makes })
   where
     part-ok : (x : ℤ) → Natural x → Within 0 mostDisplacement (natAbs x)

@@ -2,9 +2,9 @@
 use mathlib.Core.List.{List, [], _∷_, _++_, append-nil, nil≢cons}
 use mathlib.Core.Path.{_≡_, refl, sym}
 use Prim.Native.Nat.{ℕ}
+use Rattle.planner.proofs.Clash.{clash}
 use Rattle.route_sheet.specs.Text.{lineEnds}
 use Rattle.route_sheet.specs.Reading.{Got, got, stuck}
-use Rattle.route_sheet.proofs.Clash.{clash}
 
 -- The text of an allowed value begins so.
 pub record Begins {A : Type 0} (text : A → List ℕ) (ok : A → Type 0) (beginning : List ℕ) : Type 0 where
@@ -23,22 +23,22 @@ pub record Halt {A : Type 0} (text : A → List ℕ) (ok : A → Type 0) (t : Li
   pub lines-are : lineEnds beginning ≡ lines
 
 -- An allowed value was read.
-pub record Was {A : Type 0} (text : A → List ℕ) (ok : A → Type 0) (t : List ℕ) (a : A) (rest : List ℕ) : Type 0 where
+pub record WasRead {A : Type 0} (text : A → List ℕ) (ok : A → Type 0) (t : List ℕ) (a : A) (rest : List ℕ) : Type 0 where
   pub allowed : ok a
   pub text-is : t ≡ text a ++ rest
 
 -- What reading a text tells of it.
-abbrev pub Tells : {A : Type 0} → (A → List ℕ) → (A → Type 0) → List ℕ → Got A → Type 0
-Tells text ok t (got a rest) = Was text ok t a rest
-Tells text ok t (stuck lines) = Halt text ok t lines
+abbrev pub ReadingTells : {A : Type 0} → (A → List ℕ) → (A → Type 0) → List ℕ → Got A → Type 0
+ReadingTells text ok t (got a rest) = WasRead text ok t a rest
+ReadingTells text ok t (stuck lines) = Halt text ok t lines
 
 pub record Format {A : Type 0} (text : A → List ℕ) (ok : A → Type 0) (read : List ℕ → Got A) : Type 0 where
   pub back : (a : A) → ok a → (rest : List ℕ) → read (text a ++ rest) ≡ got a rest
-  pub tells : (t : List ℕ) → Tells text ok t (read t)
+  pub tells : (t : List ℕ) → ReadingTells text ok t (read t)
 
 -- Nothing is both read and stuck.
-pub never : {A : Type 0} {x : Got A} {a : A} {rest : List ℕ} {k : ℕ} → x ≡ got a rest → x ≡ stuck k → ⊥
-never e h = clash (cc)
+pub not-both : {A : Type 0} {x : Got A} {a : A} {rest : List ℕ} {k : ℕ} → x ≡ got a rest → x ≡ stuck k → ⊥
+not-both e h = clash (cc)
 
 module _ {A : Type 0} {text : A → List ℕ} {ok : A → Type 0} where
   pub begins-none : (a : A) → ok a → Begins text ok []
@@ -48,7 +48,7 @@ module _ {A : Type 0} {text : A → List ℕ} {ok : A → Type 0} where
   pub some-value : {read : List ℕ → Got A} → Format text ok read → Begins text ok []
   some-value {read} f = go (read []) (f .tells [])
     where
-      go : (x : Got A) → Tells text ok [] x → Begins text ok []
+      go : (x : Got A) → ReadingTells text ok [] x → Begins text ok []
       go (got a rest) w = begins-none a (w .allowed)
       go (stuck lines) h = begins-none (h .begins .value) (h .begins .allowed)
 
@@ -65,6 +65,6 @@ module _ {A : Type 0} {text : A → List ℕ} {ok : A → Type 0} where
       }
 
   -- Only x is allowed, and it is written as nothing.
-  pub done : (x : A) → ok x → ((a : A) → ok a → a ≡ x) → text x ≡ [] → Format text ok (λ t. got x t)
-  done x h only none =
+  pub nothing-written : (x : A) → ok x → ((a : A) → ok a → a ≡ x) → text x ≡ [] → Format text ok (λ t. got x t)
+  nothing-written x h only none =
       record { back = λ a a-ok rest. cc (only a a-ok, none); tells = λ t. record { allowed = h; text-is = cc none } }

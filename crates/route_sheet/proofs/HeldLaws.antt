@@ -5,14 +5,14 @@ use Prim.Native.Nat.{ℕ, zero, suc, _-_, _≤_}
 use native.Mathlib.Omega.{arith}
 use lib.ListN.{length, take, getD, replicate, length-append, length-replicate}
 use lib.Seq.{take-at}
+use Rattle.planner.proofs.Clash.{clash}
 use Rattle.route_sheet.specs.Sheet.{Sheet, Within, Each, mostSets, mostMoves, MoveAllowed, SheetAllowed}
 use Rattle.route_sheet.specs.Result.{Result, refused, refusedAt, given}
-use Rattle.route_sheet.specs.Answer.{Counts, refusal, noSet, noMove, filled, heldOf}
+use Rattle.route_sheet.specs.Answer.{Counts, refusal, zeroSet, zeroMove, filled, heldOf}
 use Rattle.route_sheet.specs.Inner.Route.{RouteListed}
 use Rattle.route_sheet.specs.declared.RouteMove.{RouteMove}
 use Rattle.route_sheet.specs.declared.SheetRefusal.{SheetRefusal}
 use Rattle.route_sheet.specs.declared.SheetRefusal.the-variants.{Malformed, TooLong}
-use Rattle.route_sheet.proofs.Clash.{clash}
 
 -- A refusal that is held is the one that was read.
 pub held-refusal : (x : Result Sheet) (r : SheetRefusal) → heldOf x .result ≡ refusal r → x ≡ refusal r
@@ -32,8 +32,8 @@ pub record HeldSheet (x : Result Sheet) (n : ℕ) : Type 0 where
   pub sheet : Sheet
   pub is : x ≡ given sheet
   pub moves-are : length (sheet .moves) ≡ n
-  pub set-places : heldOf x .sets ≡ filled mostSets noSet (sheet .sets)
-  pub move-places : heldOf x .moves ≡ filled mostMoves noMove (sheet .moves)
+  pub set-places : heldOf x .sets ≡ filled mostSets zeroSet (sheet .sets)
+  pub move-places : heldOf x .moves ≡ filled mostMoves zeroMove (sheet .moves)
 
 pub held-sheet : (x : Result Sheet) (m n : ℕ) → heldOf x .result ≡ given (record { sets = m; moves = n }) → HeldSheet x n
 unfolding heldOf
@@ -67,11 +67,13 @@ each-named : (sets : ℕ) (ms : List RouteMove) → sets ≤ mostSets → Each (
 each-named sets [] h e = tt
 each-named sets (m ∷ ms) h e = (record { from = e .0 .set .from; to = omega (arith, e .0 .set .to) }, each-named sets ms h (e .1))
 
-pub listed-route : (x : Sheet) (n : ℕ) → SheetAllowed x → length (x .moves) ≡ n → RouteListed (filled mostMoves noMove (x .moves)) n
+pub listed-route : (x : Sheet) (n : ℕ) → SheetAllowed x → length (x .moves) ≡ n → RouteListed (filled mostMoves zeroMove (x .moves)) n
 listed-route x n allowed e =
     let few : length (x .moves) ≤ mostMoves = allowed .move-count .to in
     record {
       count-most = omega arith;
       count-places = rw (length-append, length-replicate) (omega arith);
-      each = rw (take-filled mostMoves n noMove (x .moves) e) (each-named (length (x .sets)) (x .moves) (allowed .set-count .to) (allowed .each-move));
+      each =
+          rw (take-filled mostMoves n zeroMove (x .moves) e)
+          (each-named (length (x .sets)) (x .moves) (allowed .set-count .to) (allowed .each-move));
     }

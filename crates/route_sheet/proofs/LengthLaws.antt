@@ -30,7 +30,12 @@ move-length : (setCount : ℕ) → setCount ≤ mostSets → (x : RouteMove) →
 unfolding moveLine
 move-length setCount few x h =
     simp length-append
-    (omega (arith, signed-length (x .displacement), decimal-length 18 (natAbs (x .displacement)) (omega (arith, h .displacement)), decimal-length 1 (x .set) (omega (arith, h .set))))
+    (omega (
+      arith,
+      signed-length (x .displacement),
+      decimal-length 18 (natAbs (x .displacement)) (omega (arith, h .displacement)),
+      decimal-length 1 (x .set) (omega (arith, h .set)),
+    ))
 
 pub sheet-length : (x : Sheet) → SheetAllowed x → length (sheetText x) ≤ 7431
 unfolding sheetText

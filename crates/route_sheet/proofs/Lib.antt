@@ -1,11 +1,10 @@
-pub mod Clash
 -- The decimal of a number.
 pub mod DecimalLaws
 -- Texts, and formats: what is written and read as one.
 pub mod TextLaws
 pub mod FormatLaws
 pub mod SequenceLaws
-pub mod CarriedLaws
+pub mod MappedFormats
 pub mod ChoiceLaws
 -- The format of a number.
 pub mod ByteLaws

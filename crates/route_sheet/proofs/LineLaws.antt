@@ -14,7 +14,7 @@ use Rattle.route_sheet.specs.declared.RouteMove.{RouteMove}
 use Rattle.route_sheet.proofs.TextLaws.{lineEnds-append}
 use Rattle.route_sheet.proofs.FormatLaws.{Format}
 use Rattle.route_sheet.proofs.SequenceLaws.{With, with-own, sequence}
-use Rattle.route_sheet.proofs.CarriedLaws.{Makes, carried}
+use Rattle.route_sheet.proofs.MappedFormats.{Makes, mapped}
 use Rattle.route_sheet.proofs.NumberLaws.{decimal-lines, number-format}
 use Rattle.route_sheet.proofs.DisplacementLaws.{DisplacementAllowed, signed-lines, displacement-lines, displacement-format}
 
@@ -55,7 +55,7 @@ set-format =
     sequence 0 (λ x. x .velocity) (bound-format space refl) (λ x h. h .velocity) (λ n h. bound-lines n)
     (λ v v-ok. sequence 0 (λ x. x .acceleration) (bound-format space refl) (λ x h. h .allowed .acceleration) (λ n h. bound-lines n)
     (λ a a-ok. sequence 0 (λ x. x .jerk) (bound-format space refl) (λ x h. h .allowed .allowed .jerk) (λ n h. bound-lines n)
-    (λ j j-ok. carried 0 (bound-format lineEnd refl) (whole-set v a j v-ok a-ok j-ok))))
+    (λ j j-ok. mapped 0 (bound-format lineEnd refl) (whole-set v a j v-ok a-ok j-ok))))
 
 pub set-lines : (x : BoundSet) → lineEnds (setLine x) ≡ 1
 unfolding setLine lineEnds
@@ -79,7 +79,7 @@ pub move-format : (setCount : ℕ) → 1 ≤ setCount → Format moveLine (MoveA
 unfolding moveLine readMove
 move-format setCount h =
     sequence 0 (λ m. m .displacement) displacement-format (λ m k. k .displacement) (λ x k. displacement-lines x)
-    (λ x x-ok. carried 0 (count-format setCount h) (whole-move setCount x x-ok))
+    (λ x x-ok. mapped 0 (count-format setCount h) (whole-move setCount x x-ok))
 
 pub move-lines : (x : RouteMove) → lineEnds (moveLine x) ≡ 1
 unfolding moveLine lineEnds

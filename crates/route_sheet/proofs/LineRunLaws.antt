@@ -17,7 +17,9 @@ prepend-none (got ys rest) = refl
 prepend-none (stuck lines) = ap stuck (omega arith)
 
 module _ {A : Type 0} (read : List ℕ → Got A) (xs : List A) where
-  one-more : (x : A) (found : Got (List A)) → prepend xs (after 1 (thenRead 0 found λ ys rest. got (x ∷ ys) rest)) ≡ prepend (xs ++ (x ∷ [])) found
+  one-more :
+      (x : A) (found : Got (List A)) →
+      prepend xs (after 1 (thenRead 0 found λ ys rest. got (x ∷ ys) rest)) ≡ prepend (xs ++ (x ∷ [])) found
   unfolding prepend after thenRead
   one-more x (got ys rest) = rw append-assoc
   one-more x (stuck lines) = rw length-append (ap stuck (omega arith))

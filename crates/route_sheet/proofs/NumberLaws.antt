@@ -13,7 +13,7 @@ use Rattle.route_sheet.specs.SheetText.{ended}
 use Rattle.route_sheet.specs.Reading.{Got, got, stuck, isDigit, digitValue, withDigit, readDigits, readNumber}
 use Rattle.route_sheet.proofs.DecimalLaws.{decimal-digit, decimal-more, decimal-with, by-digits}
 use Rattle.route_sheet.proofs.TextLaws.{lineEnds-append}
-use Rattle.route_sheet.proofs.FormatLaws.{Begins, Halt, Tells, Format, never, begins-none, halt-at-end}
+use Rattle.route_sheet.proofs.FormatLaws.{Begins, Halt, ReadingTells, Format, not-both, begins-none, halt-at-end}
 use Rattle.route_sheet.proofs.ByteLaws.{Passes, decide, not-end, number-start, number-stop, digits-end, digits-next, digits-stop}
 
 -- A decimal is in one line.
@@ -82,34 +82,35 @@ module _ (least most end : ℕ) (low : least ≤ 1) (plain : isDigit end ≡ fal
         rest = b ∷ s;
         splits = refl;
         begins = begins;
-        blocked = λ b′ more at n h r w. let same : b′ ≡ b = cc in never {k = 0} (back n h []) (rw (append-nil, w, same) (stops r));
+        blocked = λ b′ more at n h r w. let same : b′ ≡ b = cc in not-both {k = 0} (back n h []) (rw (append-nil, w, same) (stops r));
         lines-are = lines;
       }
 
-  digits-tell : (s : List ℕ) (m : ℕ) → ok m → Tells text ok (decimal m ++ s) (readDigits most end m s)
+  digits-tell : (s : List ℕ) (m : ℕ) → ok m → ReadingTells text ok (decimal m ++ s) (readDigits most end m s)
   unfolding readDigits
   digits-tell [] m h = rw append-nil (halt-at-end (begins-number m h) (decimal-lines m))
   digits-tell (b ∷ s) m h = go (ℕ-discrete b end) (decide b 1 m (withDigit m b) most) (digits-tell s (withDigit m b))
     where
       go :
           Dec (b ≡ end) → Dec (Passes b 1 m (withDigit m b) most) →
-          (ok (withDigit m b) → Tells text ok (decimal (withDigit m b) ++ s) (readDigits most end (withDigit m b) s)) →
-          Tells text ok (decimal m ++ (b ∷ s)) (readDigits most end m (b ∷ s))
+          (ok (withDigit m b) → ReadingTells text ok (decimal (withDigit m b) ++ s) (readDigits most end (withDigit m b) s)) →
+          ReadingTells text ok (decimal m ++ (b ∷ s)) (readDigits most end m (b ∷ s))
       go (yes e) d ih = rw (digits-end most end m b s e) (record { allowed = h; text-is = rw (e, append-assoc) })
       go (no e) (yes d) ih =
           let b-is : digit (digitValue b) ≡ b = omega arith in
-          let more : decimal (withDigit m b) ≡ decimal m ++ (b ∷ []) = decimal-with m (digitValue b) (omega arith) (omega arith) ∙ rw b-is in
+          let more : decimal (withDigit m b) ≡ decimal m ++ (b ∷ []) =
+          decimal-with m (digitValue b) (omega arith) (omega arith) ∙ rw b-is in
           rw (digits-next most end m b s e d) (rw (more, append-assoc) at (ih (omega arith)))
       go (no e) (no d) ih =
           rw (digits-stop most end m b s e d)
           (stopped (decimal m) b s (begins-number m h) (decimal-lines m) (λ r. stands m h (b ∷ r) ∙ digits-stop most end m b r e d))
 
-  number-tells : 1 ≤ most → (t : List ℕ) → Tells text ok t (read t)
+  number-tells : 1 ≤ most → (t : List ℕ) → ReadingTells text ok t (read t)
   unfolding readNumber lineEnds
   number-tells high [] = halt-at-end (begins-any high) refl
   number-tells high (b ∷ s) = go (decide b least (digitValue b) (digitValue b) most)
     where
-      go : Dec (Passes b least (digitValue b) (digitValue b) most) → Tells text ok (b ∷ s) (read (b ∷ s))
+      go : Dec (Passes b least (digitValue b) (digitValue b) most) → ReadingTells text ok (b ∷ s) (read (b ∷ s))
       go (yes d) =
           let b-is : digit (digitValue b) ≡ b = omega arith in
           let one : decimal (digitValue b) ≡ b ∷ [] = decimal-digit (digitValue b) (omega arith) ∙ rw b-is in

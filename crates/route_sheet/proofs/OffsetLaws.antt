@@ -7,6 +7,7 @@ use native.Mathlib.Numerals.{add-one}
 use borrow.Author.Tests.{eq-eqb, ne-eqb}
 use lib.ListN.{length, drop, getD}
 use lib.Seq.{drop-cons}
+use Rattle.planner.specs.Direction.{signed}
 use Rattle.route_sheet.specs.Text.{minus}
 use Rattle.route_sheet.specs.Reading.{readDisplacement}
 use Rattle.route_sheet.specs.Inner.Parts.{readSize}
@@ -16,9 +17,9 @@ byte-at text i h = rw add-one (drop-cons text i 0 h)
 
 -- The first byte of X.
 pub with-minus : (b : ℕ) (s : List ℕ) → b ≡ minus → readDisplacement (b ∷ s) ≡ readSize 1 true s
-unfolding readDisplacement
+unfolding readDisplacement signed
 with-minus b s e = rw (eq-eqb b minus e)
 
 pub no-minus : (b : ℕ) (s : List ℕ) → (b ≡ minus → ⊥) → readDisplacement (b ∷ s) ≡ readSize 0 false (b ∷ s)
-unfolding readDisplacement
+unfolding readDisplacement signed
 no-minus b s d = rw (ne-eqb b minus d)

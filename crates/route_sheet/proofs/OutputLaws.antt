@@ -29,12 +29,15 @@ module _ {old mid : List ℕ} {at next : ℕ} {xs : List ℕ} (first : Puts old 
   pub put-byte : (b : ℕ) → Puts old at (xs ++ (b ∷ [])) (next + 1) (set mid next b)
   put-byte b = put-more (record { next-is = refl; new-is = refl })
 
--- The room for the first of two texts, and for the second after it.
-pub room-first : (at : ℕ) (xs ys : List ℕ) → Room at (xs ++ ys) → Room at xs
-room-first at xs ys h = omega (arith, rw length-append at h)
+-- The room for the first of two texts, and for the second once the first is put.
+pub record SplitRoom (at : ℕ) (xs ys : List ℕ) : Type 0 where
+  pub for-first : Room at xs
+  pub left-after : {old mid : List ℕ} {next : ℕ} → Puts old at xs next mid → Room next ys
 
-pub room-next : {old mid : List ℕ} {at next : ℕ} (xs ys : List ℕ) → Puts old at xs next mid → Room at (xs ++ ys) → Room next ys
-room-next xs ys puts h = omega (arith, puts .next-is, rw length-append at h)
+pub split-room : (at : ℕ) (xs ys : List ℕ) → Room at (xs ++ ys) → SplitRoom at xs ys
+split-room at xs ys h =
+    let both = rw length-append at h in
+    record { for-first = omega (arith, both); left-after = λ puts. omega (arith, puts .next-is, both) }
 
 -- One byte more of a text.
 pub put-next :

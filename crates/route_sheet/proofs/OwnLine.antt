@@ -95,7 +95,8 @@ module _ (n : ℕ) (rest : List ℕ) where
   in-sheet (displacement-after-minus sets count moves h) out = in-move sets count moves h (in-first _ _ (after-minus out))
   in-sheet (set-number sets count moves h x x-ok) out =
       let after-x : Stuck (readMove (length sets)) (ended space (signedDecimal x) ++ []) =
-      in-second displacement-format _ x x-ok (displacement-lines x) (in-first _ _ (number 1 (length sets) lineEnd (omega arith) refl out)) in
+      in-second displacement-format _ x x-ok (displacement-lines x)
+      (in-first _ _ (number 1 (length sets) lineEnd (omega arith) refl out)) in
       in-move sets count moves h (rw append-nil at after-x)
 
 pub own-line : OwnLineClaim

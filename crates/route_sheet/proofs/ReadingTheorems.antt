@@ -4,12 +4,12 @@ use mathlib.Core.List.{List, [], append-nil}
 use mathlib.Core.Path.{_≡_, refl, sym, subst}
 use Prim.Native.Nat.{ℕ}
 use native.Mathlib.Omega.{arith}
+use Rattle.planner.proofs.Clash.{clash}
 use Rattle.route_sheet.specs.Sheet.{Sheet}
 use Rattle.route_sheet.specs.SheetText.{sheetText}
 use Rattle.route_sheet.specs.Result.{Result, refusedAt, given}
 use Rattle.route_sheet.specs.Beginning.{ComesTo, too-long, listed, malformed-at}
 use Rattle.route_sheet.specs.ReadingClaims.{ExactClaim, ReadBackClaim, CutClaim, WrittenBack, WrittenBackClaim, LineRule, LineClaim}
-use Rattle.route_sheet.proofs.Clash.{clash}
 use Rattle.route_sheet.proofs.SheetLaws.{sections-format}
 use Rattle.route_sheet.proofs.LengthLaws.{sheet-length}
 use Rattle.route_sheet.proofs.ComesToLaws.{sound, complete}

@@ -1,26 +1,21 @@
 -- No line of a move is longer than `mostLine`.
 use mathlib.Core.Path.{_≡_, refl, sym}
-use Prim.Native.Nat.{ℕ, zero, suc, _≤_}
+use Prim.Native.Nat.{ℕ, _≤_}
 use native.Mathlib.Omega.{arith}
-use lib.IntN.{ℤ, pos, negsuc, natAbs}
+use lib.IntN.{ℤ, pos}
 use lib.ListN.{length, length-append}
 use Rattle.planner.specs.Direction.{along}
 use Rattle.planner.specs.Durations.{p, q, r, s, N}
 use Rattle.planner.specs.Outcome.{Outcome, planned, outcomeOf}
 use Rattle.planner.specs.Outcome as plan
 use Rattle.planner.specs.Facts.{PlanFacts}
+use Rattle.planner.proofs.DirectionLaws.{size-along}
 use Rattle.planner.proofs.PlannedFacts.{planned-facts}
 use Rattle.planner.proofs.RuleRefusals.{refused-most}
 use Rattle.route_sheet.specs.Sheet.{mostMoves}
 use Rattle.route_sheet.specs.Report.{field, moveReport}
 use Rattle.route_sheet.specs.Inner.Lines.{mostLine}
 use Rattle.route_sheet.proofs.DecimalLaws.{decimal-length, signed-length}
-
-along-size : (X : ℤ) (D : ℕ) → natAbs (along X (pos D)) ≡ D
-unfolding along
-along-size (pos n) D = refl
-along-size (negsuc n) zero = refl
-along-size (negsuc n) (suc D) = refl
 
 module _ (number : ℕ) (X : ℤ) (few : number ≤ mostMoves) where
   refusal-length : (n : ℕ) → n ≤ 7 → length (moveReport number X (plan.refused n)) ≤ mostLine
@@ -40,7 +35,7 @@ module _ (number : ℕ) (X : ℤ) (few : number ≤ mostMoves) where
       let fourth = decimal-length 3 (s a b c e) (omega (arith, facts .samples)) in
       let size = decimal-length 15 D (omega (arith, facts .bounds .snap, facts .accepted .in-range .snap .at-most)) in
       let missing = decimal-length 11 short (omega (arith, facts .shortfall-below, facts .product)) in
-      simp length-append (omega (arith, rw along-size at (signed-length (along X (pos D)))))
+      simp length-append (omega (arith, rw size-along at (signed-length (along X (pos D)))))
 
 -- The line of any move.
 pub line-length :

@@ -5,19 +5,19 @@ use Prim.Native.Nat.{ℕ, suc, _+_, _*_, _≤_}
 use native.Mathlib.Omega.{arith}
 use lib.ListN.{length, take, replicate, length-append}
 use lib.Seq.{sets-eq}
+use Rattle.planner.proofs.Clash.{clash}
 use Rattle.route_sheet.specs.Text.{lineEnds}
 use Rattle.route_sheet.specs.Sheet.{Sheet, mostSets, mostMoves}
 use Rattle.route_sheet.specs.Result.{Result, refused, refusedAt, given}
 use Rattle.route_sheet.specs.Beginning.{ComesTo, too-long, listed, malformed-at}
 use Rattle.route_sheet.specs.Reading.{linesIn, readSheet}
 use Rattle.route_sheet.specs.ReadingClaims.{LineRule}
-use Rattle.route_sheet.specs.Answer.{noSet, noMove, filled}
+use Rattle.route_sheet.specs.Answer.{zeroSet, zeroMove, filled}
 use Rattle.route_sheet.specs.Report.{field, setOf, outcomeIn, movesReport, sheetReport, reportText, mostReport, ReportFits, Reports}
 use Rattle.route_sheet.specs.Inner.Output.{Puts}
 use Rattle.route_sheet.specs.Inner.Lines.{mostLine}
 use Rattle.route_sheet.specs.declared.BoundSet.{BoundSet}
 use Rattle.route_sheet.specs.declared.RouteMove.{RouteMove}
-use Rattle.route_sheet.proofs.Clash.{clash}
 use Rattle.route_sheet.proofs.DecimalLaws.{decimal-length}
 use Rattle.route_sheet.proofs.TextLaws.{lineEnds-append}
 use Rattle.route_sheet.proofs.SheetLaws.{sheet-lines}
@@ -28,7 +28,7 @@ use Rattle.route_sheet.proofs.HeldLaws.{take-filled, getD-padded}
 -- Places that no set takes change no line: their bounds are the default of `setOf`.
 moves-padded :
     (sets : List BoundSet) (k number : ℕ) (ms : List RouteMove) →
-    movesReport (sets ++ replicate k noSet) number ms ≡ movesReport sets number ms
+    movesReport (sets ++ replicate k zeroSet) number ms ≡ movesReport sets number ms
 unfolding movesReport outcomeIn
 moves-padded sets k number [] = refl
 moves-padded sets k number (m ∷ ms) = rw (getD-padded, moves-padded sets k (suc number) ms)
@@ -36,9 +36,9 @@ moves-padded sets k number (m ∷ ms) = rw (getD-padded, moves-padded sets k (su
 -- The lines that the places of a sheet make are its lines.
 pub held-lines :
     (x : Sheet) (sets : List BoundSet) (moves : List RouteMove) (n : ℕ) →
-    sets ≡ filled mostSets noSet (x .sets) → moves ≡ filled mostMoves noMove (x .moves) → length (x .moves) ≡ n →
+    sets ≡ filled mostSets zeroSet (x .sets) → moves ≡ filled mostMoves zeroMove (x .moves) → length (x .moves) ≡ n →
     movesReport sets 1 (take n moves) ≡ movesReport (x .sets) 1 (x .moves)
-held-lines x sets moves n s t e = rw (s, t, take-filled mostMoves n noMove (x .moves) e, moves-padded)
+held-lines x sets moves n s t e = rw (s, t, take-filled mostMoves n zeroMove (x .moves) e, moves-padded)
 
 moves-length :
     (sets : List BoundSet) (number : ℕ) (ms : List RouteMove) → number + length ms ≤ suc mostMoves →
@@ -86,7 +86,8 @@ report-fits text = go (readSheet text) refl
         rw e (omega (arith, moves-length (x .sets) 1 (x .moves) (omega arith)))
 
 -- What was put from the first place on is the report, and the places after it are as they were.
-pub reports : {text old new : List ℕ} {count : ℕ} → length old ≡ mostReport → Puts old 0 (reportText text) count new → Reports text old count new
+pub reports :
+    {text old new : List ℕ} {count : ℕ} → length old ≡ mostReport → Puts old 0 (reportText text) count new → Reports text old count new
 reports {text} {old} whole puts =
     let fits : 0 + length (reportText text) ≤ length old = omega (arith, report-fits text) in
     let all : 0 + length (reportText text) ≡ length (reportText text) = omega arith in

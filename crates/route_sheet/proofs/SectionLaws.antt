@@ -8,9 +8,9 @@ use Rattle.route_sheet.specs.Text.{lineEnds}
 use Rattle.route_sheet.specs.Sheet.{Each}
 use Rattle.route_sheet.specs.SheetText.{joined}
 use Rattle.route_sheet.specs.Reading.{Got, readLines}
-use Rattle.route_sheet.proofs.FormatLaws.{Format, some-value, done}
+use Rattle.route_sheet.proofs.FormatLaws.{Format, some-value, nothing-written}
 use Rattle.route_sheet.proofs.SequenceLaws.{With, with-own, sequence}
-use Rattle.route_sheet.proofs.CarriedLaws.{Makes, carried, retold}
+use Rattle.route_sheet.proofs.MappedFormats.{Makes, mapped, rewritten}
 
 -- n allowed values.
 pub record Several {A : Type 0} (ok : A → Type 0) (n : ℕ) (xs : List A) : Type 0 where
@@ -54,8 +54,8 @@ module _ {A : Type 0} {text : A → List ℕ} {ok : A → Type 0} {read : List �
 
     pub lines-format : (n : ℕ) → Format (joined text) (Several ok n) (readLines read n)
     unfolding joined readLines
-    lines-format zero = done [] (record { each = tt; count = refl }) only-nil refl
+    lines-format zero = nothing-written [] (record { each = tt; count = refl }) only-nil refl
     lines-format (suc n) =
-        retold
-        (sequence 1 head f (head-ok n) (λ x h. one-line x) (λ x x-ok. carried 0 (lines-format n) (one-more n x x-ok)))
+        rewritten
+        (sequence 1 head f (head-ok n) (λ x h. one-line x) (λ x x-ok. mapped 0 (lines-format n) (one-more n x x-ok)))
         (λ xs h. ap (joined text) (head-others n xs h))

@@ -11,7 +11,8 @@ use Rattle.route_sheet.specs.Inner.Sections.{ValuesIn, Section}
 use Rattle.route_sheet.proofs.LineRunLaws.{prepend, prepend-none, lines-next, lines-stuck, lines-done}
 
 -- After `done` of `count` lines.
-pub record LinesRead {A : Type 0} (read : List ℕ → Got A) (text : List ℕ) (from most : ℕ) (unused : A) (count done next : ℕ) (places : List A) : Type 0 where
+pub record LinesRead {A : Type 0} (read : List ℕ → Got A) (text : List ℕ) (from most : ℕ) (unused : A) (count done next : ℕ)
+    (places : List A) : Type 0 where
   pub lines : ValuesIn most unused count done places
   pub found : readLines read count (drop from text) ≡ prepend (lines .values) (readLines read (count - done) (drop next text))
 
@@ -37,7 +38,7 @@ module _ {A : Type 0} (most : ℕ) (unused : A) (count : ℕ) where
         done-count = omega arith;
       }
 
-module _ {A : Type 0} (read : List ℕ → Got A) (text : List ℕ) (from most : ℕ) (unused : A) (count : ℕ) where
+module _ {A : Type 0} {read : List ℕ → Got A} {text : List ℕ} {from most : ℕ} {unused : A} {count : ℕ} where
   pub none-read : LinesRead read text from most unused count 0 from (replicate most unused)
   unfolding no-values
   none-read =
@@ -47,7 +48,7 @@ module _ {A : Type 0} (read : List ℕ → Got A) (text : List ℕ) (from most :
         found = rw (prepend-none (readLines read (count - 0) (drop from text)), left);
       }
 
-  module _ (done next : ℕ) (places : List A) (so-far : LinesRead read text from most unused count done next places) where
+  module _ {done next : ℕ} {places : List A} (so-far : LinesRead read text from most unused count done next places) where
     abbrev values : List A
     values = so-far .lines .values
 

@@ -1,12 +1,12 @@
--- One part and then the next: `sequence` makes the format of the two from theirs. Numbers in a line, lines in a section and sections in a sheet
--- all follow by it.
+-- One part and then the next: `sequence` makes the format of the two from theirs. Numbers in a line, lines in a section and sections in a
+-- sheet all follow by it.
 use mathlib.Core.List.{List, _∷_, _++_, append-assoc}
 use mathlib.Core.Path.{_≡_, refl, ap₂, _∙_}
 use Prim.Native.Nat.{ℕ, _+_}
 use Rattle.route_sheet.specs.Text.{lineEnds}
 use Rattle.route_sheet.specs.Reading.{Got, got, stuck, after, thenRead}
 use Rattle.route_sheet.proofs.TextLaws.{Overlap, longer, shorter, overlap, lineEnds-append}
-use Rattle.route_sheet.proofs.FormatLaws.{Halt, Was, Tells, Format, some-value, never}
+use Rattle.route_sheet.proofs.FormatLaws.{Halt, WasRead, ReadingTells, Format, some-value, not-both}
 
 -- An allowed value, of which a part is told.
 pub record With {A C : Type 0} (ok : C → Type 0) (first : C → A) (a : A) (c : C) : Type 0 where
@@ -17,7 +17,7 @@ pub with-own : {A C : Type 0} {ok : C → Type 0} {first : C → A} {c : C} → 
 with-own h = record { allowed = h; first-is = refl }
 
 -- A part's text, and then the next part's.
-abbrev pub both : {A C : Type 0} → (A → List ℕ) → (C → A) → (C → List ℕ) → C → List ℕ
+abbrev both : {A C : Type 0} → (A → List ℕ) → (C → A) → (C → List ℕ) → C → List ℕ
 both text₁ first text₂ c = text₁ (first c) ++ text₂ c
 
 module _ {A C : Type 0} {text₁ : A → List ℕ} {ok₁ : A → Type 0} {read₁ : List ℕ → Got A} {text₂ : C → List ℕ} {ok : C → Type 0}
@@ -38,12 +38,12 @@ module _ {A C : Type 0} {text₁ : A → List ℕ} {ok₁ : A → Type 0} {read�
 
     was-both :
         {t : List ℕ} {a : A} {middle : List ℕ} {c : C} {rest : List ℕ} →
-        Was text₁ ok₁ t a middle → Was text₂ (With ok first a) middle c rest → Was (both text₁ first text₂) ok t c rest
+        WasRead text₁ ok₁ t a middle → WasRead text₂ (With ok first a) middle c rest → WasRead (both text₁ first text₂) ok t c rest
     was-both {t} {a} {middle} {c} {rest} w₁ w₂ =
         record { allowed = w₂ .allowed .allowed; text-is = rw append-assoc (cc (w₁ .text-is, w₂ .text-is, w₂ .allowed .first-is)) }
 
-    -- The first part stops: each first part goes on to some value, and none goes on from here, since a first part that ended here would have
-    -- been read.
+    -- The first part stops: each first part goes on to some value, and none goes on from here, since a first part that ended here would
+    -- have been read.
     halt-in-first : {t : List ℕ} {k : ℕ} → read₁ t ≡ stuck k → Halt text₁ ok₁ t k → Halt (both text₁ first text₂) ok t k
     halt-in-first {t} {k} e h =
         let s = some-value (two (h .begins .value) (h .begins .allowed)) in
@@ -71,11 +71,11 @@ module _ {A C : Type 0} {text₁ : A → List ℕ} {ok₁ : A → Type 0} {read�
             let e₂ = append-assoc (text₁ (first c)) more′ (h .rest) in
             let e₃ = h .splits in
             let z : read₁ t ≡ got (first c) (more′ ++ h .rest) = cc in
-            never z e
+            not-both z e
 
     -- The second part stops: a text that agrees with this one so far has the same first part.
     halt-in-second :
-        {t : List ℕ} {a : A} {middle : List ℕ} {more : ℕ} → Was text₁ ok₁ t a middle → Halt text₂ (With ok first a) middle more →
+        {t : List ℕ} {a : A} {middle : List ℕ} {more : ℕ} → WasRead text₁ ok₁ t a middle → Halt text₂ (With ok first a) middle more →
         Halt (both text₁ first text₂) ok t (lines + more)
     halt-in-second {t} {a} {middle} {more} w h =
         let p = h .beginning in
@@ -105,11 +105,13 @@ module _ {A C : Type 0} {text₁ : A → List ℕ} {ok₁ : A → Type 0} {read�
     sequence = record { back = sequence-back; tells = λ t. in-first t (read₁ t) refl (one .tells t) }
       where
         in-second :
-            {t : List ℕ} {a : A} {middle : List ℕ} → Was text₁ ok₁ t a middle →
-            (x : Got C) → Tells text₂ (With ok first a) middle x → Tells (both text₁ first text₂) ok t (after lines x)
+            {t : List ℕ} {a : A} {middle : List ℕ} → WasRead text₁ ok₁ t a middle →
+            (x : Got C) → ReadingTells text₂ (With ok first a) middle x → ReadingTells (both text₁ first text₂) ok t (after lines x)
         in-second w (got c rest) v = was-both w v
         in-second w (stuck more) h = halt-in-second w h
 
-        in-first : (t : List ℕ) (x : Got A) → read₁ t ≡ x → Tells text₁ ok₁ t x → Tells (both text₁ first text₂) ok t (thenRead lines x read₂)
+        in-first :
+            (t : List ℕ) (x : Got A) → read₁ t ≡ x → ReadingTells text₁ ok₁ t x →
+            ReadingTells (both text₁ first text₂) ok t (thenRead lines x read₂)
         in-first t (got a middle) e w = in-second w (read₂ a middle) (two a (w .allowed) .tells middle)
         in-first t (stuck k) e h = halt-in-first e h

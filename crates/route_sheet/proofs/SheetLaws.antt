@@ -12,7 +12,7 @@ use Rattle.route_sheet.specs.declared.BoundSet.{BoundSet}
 use Rattle.route_sheet.proofs.TextLaws.{lineEnds-append}
 use Rattle.route_sheet.proofs.FormatLaws.{Format}
 use Rattle.route_sheet.proofs.SequenceLaws.{With, with-own, sequence}
-use Rattle.route_sheet.proofs.CarriedLaws.{Makes, carried}
+use Rattle.route_sheet.proofs.MappedFormats.{Makes, mapped}
 use Rattle.route_sheet.proofs.NumberLaws.{decimal-lines}
 use Rattle.route_sheet.proofs.LineLaws.{count-format, count-lines, set-format, set-lines, move-format, move-lines}
 use Rattle.route_sheet.proofs.JoinedLaws.{joined-lines}
@@ -61,9 +61,10 @@ sections-format =
     (λ x h. record { each = h .allowed .each-set; count = h .first-is }) (λ xs h. joined-lines setLine set-lines xs ∙ h .count)
     (λ sets sets-ok. sequence 1 (λ x. length (x .moves)) (count-format mostMoves (omega arith))
     (λ x h. h .allowed .allowed .move-count) (λ n h. count-lines n)
-    (λ n n-ok. carried n (lines-format (move-format m (m-ok .from)) move-lines n) (whole-sheet m m-ok sets sets-ok n n-ok))))
+    (λ n n-ok. mapped n (lines-format (move-format m (m-ok .from)) move-lines n) (whole-sheet m m-ok sets sets-ok n n-ok))))
 
 pub sheet-lines : (x : Sheet) → lineEnds (sheetText x) ≡ linesIn x
 unfolding sheetText lineEnds
 sheet-lines x =
-    simp (lineEnds-append, decimal-lines, joined-lines setLine set-lines (x .sets), joined-lines moveLine move-lines (x .moves)) (omega arith)
+    simp (lineEnds-append, decimal-lines, joined-lines setLine set-lines (x .sets), joined-lines moveLine move-lines (x .moves))
+    (omega arith)

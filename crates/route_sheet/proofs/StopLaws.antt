@@ -7,20 +7,22 @@ use lib.ListN.{length, length-append}
 use Rattle.route_sheet.specs.Text.{lineEnds}
 use Rattle.route_sheet.specs.Reading.{Got}
 use Rattle.route_sheet.proofs.TextLaws.{Overlap, longer, shorter, overlap}
-use Rattle.route_sheet.proofs.FormatLaws.{Begins, Halt, Was, Format}
+use Rattle.route_sheet.proofs.FormatLaws.{Begins, Halt, WasRead, Format}
 
 module _ {A : Type 0} {text : A → List ℕ} {ok : A → Type 0} where
   -- A whole text, and more bytes: no other text goes on from a whole one.
   pub halt-at-spare :
       {read : List ℕ → Got A} {t : List ℕ} {a : A} {b : ℕ} {s : List ℕ} →
-      Format text ok read → Was text ok t a (b ∷ s) → Halt text ok t (lineEnds (text a))
+      Format text ok read → WasRead text ok t a (b ∷ s) → Halt text ok t (lineEnds (text a))
   halt-at-spare {a = a} {b} {s} f w =
       record {
         beginning = text a;
         rest = b ∷ s;
         splits = w .text-is;
         begins = record { value = a; allowed = w .allowed; rest = []; whole = sym (append-nil (text a)) };
-        blocked = λ x more at c c-ok r e. nil≢cons {x = x} {xs = r} (cc (f .back c c-ok [], f .back a (w .allowed) (x ∷ r), append-nil (text c)));
+        blocked =
+            λ x more at c c-ok r e.
+            nil≢cons {x = x} {xs = r} (cc (f .back c c-ok [], f .back a (w .allowed) (x ∷ r), append-nil (text c)));
         lines-are = refl;
       }
 

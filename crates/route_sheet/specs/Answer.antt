@@ -42,24 +42,24 @@ abbrev pub held : SheetReading → Held
 held x = record { result = result (x .answer); sets = x .sets; moves = x .moves }
 
 -- What fills the places that no set and no move takes.
-abbrev pub noSet : BoundSet
-noSet = record { velocity = 0; acceleration = 0; jerk = 0; snap = 0 }
+abbrev pub zeroSet : BoundSet
+zeroSet = record { velocity = 0; acceleration = 0; jerk = 0; snap = 0 }
 
-abbrev pub noMove : RouteMove
-noMove = record { displacement = pos 0; set = 0 }
+abbrev pub zeroMove : RouteMove
+zeroMove = record { displacement = pos 0; set = 0 }
 
 abbrev pub filled : {A : Type 0} → (places : ℕ) → A → List A → List A
 filled places unused xs = xs ++ replicate (places - length xs) unused
 
 unfoldable pub heldOf : Result Sheet → Held
-heldOf (refused number) = record { result = refused number; sets = replicate mostSets noSet; moves = replicate mostMoves noMove }
+heldOf (refused number) = record { result = refused number; sets = replicate mostSets zeroSet; moves = replicate mostMoves zeroMove }
 heldOf (refusedAt number line) =
-    record { result = refusedAt number line; sets = replicate mostSets noSet; moves = replicate mostMoves noMove }
+    record { result = refusedAt number line; sets = replicate mostSets zeroSet; moves = replicate mostMoves zeroMove }
 heldOf (given x) =
     record {
       result = given (record { sets = length (x .sets); moves = length (x .moves) });
-      sets = filled mostSets noSet (x .sets);
-      moves = filled mostMoves noMove (x .moves);
+      sets = filled mostSets zeroSet (x .sets);
+      moves = filled mostMoves zeroMove (x .moves);
     }
 
 -- What the reader promises of what it holds. By the meaning of the rules `readSheet` is `ComesTo` (`ExactClaim`).

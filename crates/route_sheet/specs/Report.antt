@@ -14,7 +14,7 @@ use Rattle.route_sheet.specs.Decimal.{decimal, signedDecimal}
 use Rattle.route_sheet.specs.Sheet.{Sheet}
 use Rattle.route_sheet.specs.Result.{Result, refused, refusedAt, given}
 use Rattle.route_sheet.specs.Reading.{readSheet}
-use Rattle.route_sheet.specs.Answer.{noSet}
+use Rattle.route_sheet.specs.Answer.{zeroSet}
 use Rattle.route_sheet.specs.declared.BoundSet.{BoundSet}
 use Rattle.route_sheet.specs.declared.RouteMove.{RouteMove}
 
@@ -41,7 +41,7 @@ moveReport number X (planned a b c e D short) =
 
 -- The set with a number from 1 on. A sheet's set numbers are those of its sets, so none is missing.
 abbrev pub setOf : List BoundSet → (number : ℕ) → BoundSet
-setOf sets number = getD sets (number - 1) noSet
+setOf sets number = getD sets (number - 1) zeroSet
 
 -- What the planner's rule makes of a move with the bounds of its set.
 unfoldable pub outcomeIn : List BoundSet → RouteMove → Outcome

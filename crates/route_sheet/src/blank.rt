@@ -3,28 +3,28 @@ use crate::BoundSet;
 use crate::RouteMove;
 ghost use mathlib.Core.Path.{_≡_};
 ghost use lib.ListN.{replicate};
-ghost use Rattle.route_sheet.specs.Answer.{noSet, noMove};
+ghost use Rattle.route_sheet.specs.Answer.{zeroSet, zeroMove};
 
-const NO_SET: BoundSet = BoundSet {
+const ZERO_SET: BoundSet = BoundSet {
     velocity: 0,
     acceleration: 0,
     jerk: 0,
     snap: 0,
 };
 
-const NO_MOVE: RouteMove = RouteMove {
+const ZERO_MOVE: RouteMove = RouteMove {
     displacement: 0,
     set: 0,
 };
 
-pub(crate) fn no_sets() -> [BoundSet; 16]
-    ensures { λ r. ⌜ r ≡ replicate 16 noSet ⌝ }
+pub(crate) fn zero_sets() -> [BoundSet; 16]
+    ensures { λ r. ⌜ r ≡ replicate 16 zeroSet ⌝ }
 {
-    [NO_SET; 16]
+    [ZERO_SET; 16]
 }
 
-pub(crate) fn no_moves() -> [RouteMove; 256]
-    ensures { λ r. ⌜ r ≡ replicate 256 noMove ⌝ }
+pub(crate) fn zero_moves() -> [RouteMove; 256]
+    ensures { λ r. ⌜ r ≡ replicate 256 zeroMove ⌝ }
 {
-    [NO_MOVE; 256]
+    [ZERO_MOVE; 256]
 }

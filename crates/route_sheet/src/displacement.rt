@@ -5,19 +5,20 @@ use crate::number::read_number;
 ghost use mathlib.Core.Path.{_≡_};
 ghost use Prim.Native.Nat.{_≤_};
 ghost use lib.ListN.{drop};
+ghost use Rattle.planner.specs.Direction.{signed};
 ghost use Rattle.route_sheet.specs.Sheet.{mostDisplacement};
 ghost use Rattle.route_sheet.specs.Reading.{readDisplacement};
-ghost use Rattle.route_sheet.specs.Inner.Parts.{signed, readSize, displacementRead};
+ghost use Rattle.route_sheet.specs.Inner.Parts.{readSize, displacementRead};
 
 const MINUS: u8 = b'-';
 
 // The farthest X that a sheet may hold, either way. What the planner refuses is read all the same.
 const MOST_DISPLACEMENT: u64 = 9_223_372_036_854_775_807;
 
-// A displacement and the offset after the space that ends it.
+// A displacement and the offset after the space that ends it; or there is none to read.
 pub(crate) enum DisplacementRead {
     Displacement(i64, usize),
-    NoDisplacement,
+    Unread,
 }
 
 fn with_sign(size: u64, negative: bool) -> i64
@@ -35,7 +36,7 @@ fn read_size(text: &[u8], from: usize, least: u64, negative: bool) -> Displaceme
 {
     let size = read_number(text, from, least, MOST_DISPLACEMENT, SPACE);
     let NumberRead::Number(value, next) = size else {
-        return DisplacementRead::NoDisplacement;
+        return DisplacementRead::Unread;
     };
     DisplacementRead::Displacement(with_sign(value, negative), next)
 }
@@ -45,7 +46,7 @@ pub(crate) fn read_displacement(text: &[u8], from: usize) -> DisplacementRead
     ensures { λ r. ⌜ displacementRead (now (text .entry)) r ≡ readDisplacement (drop from (now (text .entry))) ⌝ }
 {
     if text.len() <= from {
-        return DisplacementRead::NoDisplacement;
+        return DisplacementRead::Unread;
     }
     if text[from] == MINUS {
         return read_size(text, from + 1, 1, true);

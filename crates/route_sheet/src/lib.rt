@@ -25,6 +25,7 @@ const MOST_BYTES: usize = 65535;
 pub const REPORT_BYTES: usize = 32768;
 
 // The bounds V, A, J and S of a set, in sub-count units and samples.
+#[repr(C)]
 pub struct BoundSet {
     pub velocity: u64,
     pub acceleration: u64,
@@ -33,6 +34,7 @@ pub struct BoundSet {
 }
 
 // A move: its displacement X in counts, and the number of its set, from 1.
+#[repr(C)]
 pub struct RouteMove {
     pub displacement: i64,
     pub set: u64,

@@ -17,15 +17,15 @@ ghost use Rattle.route_sheet.specs.Inner.Parts.{setRead, moveRead};
 // The largest number of 19 digits.
 const MOST_NUMBER: u64 = 9_999_999_999_999_999_999;
 
-// A set and the offset after its line.
+// A set and the offset after its line; or there is none to read.
 pub(crate) enum SetRead {
     Set(BoundSet, usize),
-    NoSet,
+    Unread,
 }
 
 pub(crate) enum MoveRead {
     Move(RouteMove, usize),
-    NoMove,
+    Unread,
 }
 
 // The line V A J S that starts at `from`.
@@ -34,19 +34,19 @@ pub(crate) fn read_set(text: &[u8], from: usize) -> SetRead
 {
     let v = read_number(text, from, 0, MOST_NUMBER, SPACE);
     let NumberRead::Number(velocity, after_v) = v else {
-        return SetRead::NoSet;
+        return SetRead::Unread;
     };
     let a = read_number(text, after_v, 0, MOST_NUMBER, SPACE);
     let NumberRead::Number(acceleration, after_a) = a else {
-        return SetRead::NoSet;
+        return SetRead::Unread;
     };
     let j = read_number(text, after_a, 0, MOST_NUMBER, SPACE);
     let NumberRead::Number(jerk, after_j) = j else {
-        return SetRead::NoSet;
+        return SetRead::Unread;
     };
     let s = read_number(text, after_j, 0, MOST_NUMBER, LINE_END);
     let NumberRead::Number(snap, next) = s else {
-        return SetRead::NoSet;
+        return SetRead::Unread;
     };
     SetRead::Set(
         BoundSet {
@@ -66,11 +66,11 @@ pub(crate) fn read_move(text: &[u8], from: usize, sets: u64) -> MoveRead
 {
     let x = read_displacement(text, from);
     let DisplacementRead::Displacement(displacement, after_x) = x else {
-        return MoveRead::NoMove;
+        return MoveRead::Unread;
     };
     let n = read_number(text, after_x, 1, sets, LINE_END);
     let NumberRead::Number(set, next) = n else {
-        return MoveRead::NoMove;
+        return MoveRead::Unread;
     };
     MoveRead::Move(RouteMove { displacement, set }, next)
 }

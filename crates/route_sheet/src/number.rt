@@ -9,12 +9,13 @@ pub(crate) const SPACE: u8 = b' ';
 
 pub(crate) const LINE_END: u8 = b'\n';
 
-// A number and the offset after the byte that ends it.
+// A number and the offset after the byte that ends it; or there is none to read.
 pub(crate) enum NumberRead {
     Number(u64, usize),
-    NoNumber,
+    Unread,
 }
 
+// A call asks for no proof that the byte fits; a cast in place does.
 fn wide(b: u8) -> u64
     ensures { λ r. ⌜ r ≡ b ⌝ }
 {
@@ -67,12 +68,12 @@ fn read_digits(text: &[u8], from: usize, first: u64, most: u64, end: u8) -> Numb
             return NumberRead::Number(n, i + 1);
         }
         if !goes_on(most, n, b) {
-            return NumberRead::NoNumber;
+            return NumberRead::Unread;
         }
         n = 10 * n + wide(b - b'0');
         i += 1;
     }
-    NumberRead::NoNumber
+    NumberRead::Unread
 }
 
 // The number that starts at `from`, if it is from `least` to `most` and `end` ends it.
@@ -81,11 +82,11 @@ pub(crate) fn read_number(text: &[u8], from: usize, least: u64, most: u64, end: 
     ensures { λ r. ⌜ ReadsNumber (now (text .entry)) from least most end r ⌝ }
 {
     if text.len() <= from {
-        return NumberRead::NoNumber;
+        return NumberRead::Unread;
     }
     let b = text[from];
     if !begins_number(least, most, b) {
-        return NumberRead::NoNumber;
+        return NumberRead::Unread;
     }
     read_digits(text, from + 1, wide(b - b'0'), most, end)
 }

@@ -1,8 +1,8 @@
 // The sections of a sheet: as many lines as its count says.
 use crate::BoundSet;
 use crate::RouteMove;
-use crate::blank::no_moves;
-use crate::blank::no_sets;
+use crate::blank::zero_moves;
+use crate::blank::zero_sets;
 use crate::lines::MoveRead;
 use crate::lines::SetRead;
 use crate::lines::read_move;
@@ -29,7 +29,7 @@ pub(crate) fn read_sets(text: &[u8], from: usize, count: u64) -> SetsRead
     requires { ⌜ count ≤ mostSets ⌝ }
     ensures { λ r. ⌜ ReadsSets (now (text .entry)) from count r ⌝ }
 {
-    let mut sets = no_sets();
+    let mut sets = zero_sets();
     let mut done = 0u64;
     let mut next = from;
     while done < count {
@@ -50,7 +50,7 @@ pub(crate) fn read_moves(text: &[u8], from: usize, sets: u64, count: u64) -> Mov
     requires { ⌜ MovesSpan sets count ⌝ }
     ensures { λ r. ⌜ ReadsMoves (now (text .entry)) from sets count r ⌝ }
 {
-    let mut moves = no_moves();
+    let mut moves = zero_moves();
     let mut done = 0u64;
     let mut next = from;
     while done < count {

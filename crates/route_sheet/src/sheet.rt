@@ -2,8 +2,8 @@
 use crate::SheetAnswer;
 use crate::SheetReading;
 use crate::SheetRefusal;
-use crate::blank::no_moves;
-use crate::blank::no_sets;
+use crate::blank::zero_moves;
+use crate::blank::zero_sets;
 use crate::number::LINE_END;
 use crate::number::NumberRead;
 use crate::number::read_number;
@@ -25,8 +25,8 @@ pub(crate) fn refused(refusal: SheetRefusal) -> SheetReading
     ensures { λ r. ⌜ held r ≡ heldOf (refusalOf refusal) ⌝ }
 {
     let answer = SheetAnswer::Refused(refusal);
-    let sets = no_sets();
-    let moves = no_moves();
+    let sets = zero_sets();
+    let moves = zero_moves();
     SheetReading {
         answer,
         sets,
@@ -55,7 +55,7 @@ pub(crate) fn read_lines(text: &[u8]) -> SheetReading
     read_second(text, section)
 }
 
-// Reads on after the first section.
+// Reads on after a first section of which all sets were read.
 fn read_second(text: &[u8], first: SetsRead) -> SheetReading
     requires { ⌜ SetsHeld first ⌝ }
     ensures { λ r. ⌜ held r ≡ heldOf (resultOf (readAfter first (now (text .entry)))) ⌝ }

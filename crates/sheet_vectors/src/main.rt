@@ -8,7 +8,7 @@ mod request;
 
 use crate::reading::write_reading;
 use crate::request::fill_rest;
-use crate::request::least;
+use crate::request::smaller;
 use crate::request::text_length;
 use route_sheet::REPORT_BYTES;
 use vector_text::read_field;
@@ -41,7 +41,7 @@ fn answer_request() -> bool {
 // Reads the first n bytes of the text, and answers it.
 fn answer_text(text: &mut [u8], n: usize, fill: u8) {
     let first = 0;
-    let end = least(n, text.len());
+    let end = smaller(n, text.len());
     let read = io::read_full(0, &mut text[first..end]);
     fill_rest(text, read, fill);
     write_answer(text);

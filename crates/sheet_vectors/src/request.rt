@@ -4,7 +4,7 @@ ghost use Prim.Native.Nat.{_≤_};
 // The most bytes that a request's text has: one more than a sheet may have.
 const MOST_BYTES: usize = 65536;
 
-pub(crate) fn least(a: usize, b: usize) -> usize
+pub(crate) fn smaller(a: usize, b: usize) -> usize
     ensures { λ r. ⌜ r ≤ b ⌝ }
 {
     if a < b { a } else { b }
@@ -13,7 +13,7 @@ pub(crate) fn least(a: usize, b: usize) -> usize
 pub(crate) fn text_length(n: u64) -> usize
     ensures { λ r. ⌜ r ≤ 65536 ⌝ }
 {
-    least(n as usize, MOST_BYTES)
+    smaller(n as usize, MOST_BYTES)
 }
 
 // Puts `fill` into every place from `from` on.

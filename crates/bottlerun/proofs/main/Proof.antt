@@ -1,4 +1,4 @@
--- `main` is safe and ends: what the report counts lies within its places. Assumes nothing of its own.
+-- `main` is safe and ends: what the report counts lies within its places.
 use borrow.Author.Needs.{needs}
 use mathlib.Core.Path.{sym}
 use lib.Seq.{length-take-le}

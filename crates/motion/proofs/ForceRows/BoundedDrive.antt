@@ -1,4 +1,4 @@
--- The drive of a machine in range: α is at most 1 in size, and β at most 2^20. Assumes nothing.
+-- The drive of a machine in range: α is at most 1 in size, and β at most 2^20.
 use mathlib.Core.Bool.{true, false, true≢false}
 use mathlib.Core.Path.{_≡_, refl, sym, _∙_}
 use Prim.Native.Nat.{ℕ, _+_, _*_, _^_, _≤_, _<_}
@@ -10,9 +10,10 @@ use lib.Ieee.{Float, nan, inf, fin, binary64, up, down, round, sum, neg, add, su
 use lib.Ieee.Exact.{HasValue}
 use lib.Ieee.Scale.{finite, round-val, round-under}
 use lib.Ieee.Positive.{num, den, den-pos}
+use Rattle.planner.specs.Direction.{signed}
 use Rattle.motion.specs.ForceRows.Machine.{plusZero, leastStiffness}
 use Rattle.motion.specs.ForceRows.Force.{one, two, g, alpha, beta}
-use Rattle.motion.specs.ForceRows.Exact.{signed, IsWhole}
+use Rattle.motion.specs.ForceRows.Exact.{IsWhole}
 use Rattle.motion.proofs.ForceRows.WholeFloats.{zero-equals}
 use Rattle.motion.proofs.ForceRows.RoundedLaws.{opened-sum, opened-product}
 use Rattle.motion.proofs.ForceRows.SizeLaws.{_⪯_, minus-zero, ⪯-closed, round-⪯, bound}
@@ -44,7 +45,7 @@ twice-plus (plus {m} {e}) f =
     let is = opened-product false false 1 m (pos 1) e in
     rw is (plus-of-value (round binary64 false a d) _ _ (round-val binary64 a d (round-under binary64 a d (rw is at f))))
 
--- ---- of two such numbers the sum is larger than the difference
+-- of two such numbers the sum is larger than the difference
 abbrev numerator : (x y : Float) → ℕ
 numerator x y = num x * den y + num y * den x
 
@@ -72,7 +73,8 @@ module _ {x y : Float} (p : Plus x) (q : Plus y) (f : T (finite (add binary64 x 
   difference-⪯ : sub binary64 x y ⪯ add binary64 x y
   difference-⪯ =
       let h = difference-size p q in
-      rw (h .rounded, sum-is p q) (round-⪯ (h .negative) false (h .size) d n d d-pos d-pos (mul-le-mul-right d (h .size-le)) (rw (sum-is p q) at f))
+      rw (h .rounded, sum-is p q) (round-⪯ (h .negative) false (h .size) d n d d-pos d-pos (mul-le-mul-right d (h .size-le))
+      (rw (sum-is p q) at f))
 
   stiff-sum : leastStiffness ⪯ y → leastStiffness ⪯ add binary64 x y
   unfolding round

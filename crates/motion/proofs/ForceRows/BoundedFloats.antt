@@ -1,9 +1,8 @@
--- How large casts, sums, products and quotients of finite floats can be. Assumes nothing.
+-- How large casts, sums, products and quotients of finite floats can be.
 use mathlib.Core.Bool.{Bool, false}
 use mathlib.Core.Path.{_≡_}
 use Prim.Native.Nat.{ℕ, suc, _+_, _*_, _^_, _≤_, _<_}
-use native.Mathlib.Nat.{le-refl, le-trans, lt-of-lt-of-le, mul-one, one-mul, mul-assoc, mul-comm, mul-left-comm, add-mul, mul-pos}
-use native.Mathlib.Nat.{mul-le-mul, mul-le-mul-right}
+use native.Mathlib.Nat.{le-refl, le-trans, lt-of-lt-of-le, mul-one, one-mul, mul-assoc, mul-comm, mul-left-comm, add-mul, mul-pos, mul-le-mul, mul-le-mul-right}
 use native.Mathlib.Omega.{arith}
 use lib.Dec.{T, lit<, lit≤}
 use lib.Pow.{pow-add}
@@ -11,7 +10,8 @@ use lib.IntN.{ℤ, negsuc, natAbs, _+ℤ_}
 use lib.Ieee.{Float, nan, inf, fin, binary64, up, down, unlike, round, add, mul, div, ofInt}
 use lib.Ieee.Scale.{finite}
 use lib.Ieee.Positive.{num, den, den-pos, first-pos}
-use Rattle.motion.specs.ForceRows.Exact.{signed, IsRounded}
+use Rattle.planner.specs.Direction.{signed}
+use Rattle.motion.specs.ForceRows.Exact.{IsRounded}
 use Rattle.motion.proofs.IntegerLaws.{size-sum}
 use Rattle.motion.proofs.ForceRows.SignedLaws.{size-signed}
 use Rattle.motion.proofs.ForceRows.SignedSums.{signed-sum}
@@ -25,7 +25,7 @@ pub record RoundsAtMost (x : Float) (n d : ℕ) : Type 0 where
   pub size-le : size ≤ n
   pub rounded : x ≡ round binary64 negative size d
 
-pub at-most : {x : Float} {n d : ℕ} (q j : ℕ) → RoundsAtMost x n d → 0 < d → n ≤ q * 2 ^ j * d → T (held q j) → x ⪯ bound q j
+at-most : {x : Float} {n d : ℕ} (q j : ℕ) → RoundsAtMost x n d → 0 < d → n ≤ q * 2 ^ j * d → T (held q j) → x ⪯ bound q j
 at-most {n} {d} q j h D l f = rw (h .rounded) (round-bound (h .negative) (h .size) d q j D (le-trans (h .size-le) l) f)
 
 of-rounded : {x : Float} {z : ℤ} {n d : ℕ} → IsRounded x z d → natAbs z ≤ n → RoundsAtMost x n d
@@ -36,7 +36,7 @@ of-rounded h l =
 pub cast-bound : (z : ℤ) → natAbs z ≤ 2 ^ 53 → ofInt binary64 z ⪯ bound 1 53
 cast-bound z h = at-most 1 53 (of-rounded (cast-rounded z) h) (lit< tt) (lit≤ tt) tt
 
--- ---- two finite floats
+-- two finite floats
 by-finite :
     (P : Float → Float → Type 0)
     → ((s t : Bool) (m n : ℕ) (e d : ℤ) → P (fin s m e) (fin t n d))
@@ -58,7 +58,12 @@ sum-size =
 product-size : (x y : Float) → T (finite x) → T (finite y) → RoundsAtMost (mul binary64 x y) (num x * num y) (den x * den y)
 product-size =
     by-finite (λ x y. RoundsAtMost (mul binary64 x y) (num x * num y) (den x * den y))
-    (λ s t m n e d. record { negative = unlike s t; size = m * up e * (n * up d); size-le = le-refl _; rounded = opened-product s t m n e d })
+    (λ s t m n e d. record {
+      negative = unlike s t;
+      size = m * up e * (n * up d);
+      size-le = le-refl _;
+      rounded = opened-product s t m n e d;
+    })
 
 quotient-size : (x y : Float) → T (finite x) → T (finite y) → 0 < num y → RoundsAtMost (div binary64 x y) (num x * den y) (num y * den x)
 quotient-size =
@@ -66,7 +71,7 @@ quotient-size =
     (λ s t m n e d p.
     record { negative = unlike s t; size = m * up e * down d; size-le = le-refl _; rounded = opened-quotient s t m n e d (first-pos n (up d) p) })
 
--- ---- bounds
+-- bounds
 pub ruleset products = (mul-one, one-mul, mul-assoc, mul-comm, mul-left-comm)
 
 crossed-sum : (a b p q u v w : ℕ) → a * 1 ≤ p * w * u → b * 1 ≤ q * w * v → a * v + b * u ≤ (p + q) * w * (u * v)
@@ -99,4 +104,5 @@ module _ {y : Float} {i : ℕ} (k : fin false 1 (negsuc i) ⪯ y) (F : T (finite
   -- .. that is at least as large
   pub ratio-bound : {x : Float} → x ⪯ y → div binary64 x y ⪯ bound 1 0
   ratio-bound {x} h =
-      at-most 1 0 (quotient-size x y (h .is-finite) F above-zero) (mul-pos above-zero (den-pos x)) (rw (one-mul (num y * den x)) (h .size-le)) tt
+      at-most 1 0 (quotient-size x y (h .is-finite) F above-zero) (mul-pos above-zero (den-pos x))
+      (rw (one-mul (num y * den x)) (h .size-le)) tt

@@ -1,4 +1,4 @@
--- A machine in range: how large its numbers and u can be. Assumes nothing.
+-- A machine in range: how large its numbers and u can be.
 use Prim.Native.Nat.{ℕ}
 use lib.Dec.{T}
 use lib.IntN.{ℤ}
@@ -48,8 +48,10 @@ u-bound m w k b c =
     let masses = sum-bound (b .m1) (b .m2) tt in
     let dampings = sum-bound (b .k1) (b .k2) tt in
     let snap = product-bound (product-bound (b .m1) (b .m2) tt) (cast-bound _ (c .d2)) tt in
-    let q2-bound = sum-bound (sum-bound (product-bound masses (b .k12) tt) (product-bound (b .m1) (b .k2) tt) tt) (product-bound (b .m2) (b .k1) tt) tt in
-    let q3-bound = sum-bound (sum-bound (product-bound masses (b .c) tt) (product-bound (b .k1) (b .k2) tt) tt) (product-bound dampings (b .k12) tt) tt in
+    let q2-bound =
+    sum-bound (sum-bound (product-bound masses (b .k12) tt) (product-bound (b .m1) (b .k2) tt) tt) (product-bound (b .m2) (b .k1) tt) tt in
+    let q3-bound =
+    sum-bound (sum-bound (product-bound masses (b .c) tt) (product-bound (b .k1) (b .k2) tt) tt) (product-bound dampings (b .k12) tt) tt in
     let jerk = product-bound q2-bound (cast-bound _ (c .j2)) tt in
     let acceleration = product-bound q3-bound (cast-bound _ (c .a2)) tt in
     let velocity = product-bound (product-bound dampings (b .c) tt) (cast-bound _ (c .v2)) tt in

@@ -1,4 +1,4 @@
--- Whole numbers within 2^53 fit an i64, and an f64 counts them without a gap. Assumes nothing.
+-- Whole numbers within 2^53 fit an i64, and an f64 counts them without a gap.
 use Prim.Native.Nat.{_≤_, _^_}
 use native.Mathlib.Omega.{arith}
 use lib.Dec.{T, le→leb, lt→ltb}

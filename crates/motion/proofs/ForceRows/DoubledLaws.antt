@@ -1,4 +1,4 @@
--- The doubled numbers of a plan's rows: after the last sample there is nothing to cut off, and no cast loses anything. Assumes nothing.
+-- The doubled numbers of a plan's rows: after the last sample there is nothing to cut off, and no cast loses anything.
 use mathlib.Core.Bool.{Bool, true, false, not, cond}
 use mathlib.Core.Path.{_≡_, refl, sym, fun-ext}
 use Prim.Native.Nat.{ℕ, zero, suc, _≤_, _^_, zero-le}
@@ -15,7 +15,7 @@ use Rattle.motion.specs.Inner.Steps.{stateAt}
 use Rattle.motion.specs.Inner.Planned.{WithinRange, plannedNumbers}
 use Rattle.motion.proofs.IntegerLaws.{size-sum, size-doubled}
 use Rattle.motion.proofs.RestLaws as rest
-use Rattle.motion.proofs.StateLaws.{directed, state-is, snap-slow, jerk-slow, acceleration-slow, velocity-slow}
+use Rattle.motion.proofs.StateLaws.{directed, state-is, snap-most, jerk-most, acceleration-most, velocity-most}
 
 -- a value that is 0 after N anyway
 cut : (N : ℕ) (f : ℕ → ℤ) → ((k : ℕ) → N ≤ k → f k ≡ pos 0) → upTo N f ≡ f
@@ -65,12 +65,13 @@ module _ (X : ℤ) (a b c e D : ℕ) (h : WithinRange a b c e D) where
   unfolding doubled sums
   castable k =
       record {
-        d2 = twice (earlier snap 2 k) (earlier-size snap (2 ^ 50) (snap-slow X a b c e D h) 2 k);
+        d2 = twice (earlier snap 2 k) (earlier-size snap (2 ^ 50) (snap-most X a b c e D h) 2 k);
         j2 =
-            both (earlier (sums 1 snap) 1 k) (earlier (sums 1 snap) 2 k) (earlier-size (sums 1 snap) (2 ^ 50) (jerk-slow X a b c e D h) 1 k)
-            (earlier-size (sums 1 snap) (2 ^ 50) (jerk-slow X a b c e D h) 2 k);
-        a2 = twice (earlier (sums 2 snap) 1 k) (earlier-size (sums 2 snap) (2 ^ 50) (acceleration-slow X a b c e D h) 1 k);
+            both (earlier (sums 1 snap) 1 k) (earlier (sums 1 snap) 2 k) (earlier-size (sums 1 snap) (2 ^ 50) (jerk-most X a b c e D h) 1 k)
+            (earlier-size (sums 1 snap) (2 ^ 50) (jerk-most X a b c e D h) 2 k);
+        a2 = twice (earlier (sums 2 snap) 1 k) (earlier-size (sums 2 snap) (2 ^ 50) (acceleration-most X a b c e D h) 1 k);
         v2 =
-            both (earlier (sums 3 snap) 0 k) (earlier (sums 3 snap) 1 k) (earlier-size (sums 3 snap) (2 ^ 50) (velocity-slow X a b c e D h) 0 k)
-            (earlier-size (sums 3 snap) (2 ^ 50) (velocity-slow X a b c e D h) 1 k);
+            both (earlier (sums 3 snap) 0 k) (earlier (sums 3 snap) 1 k)
+            (earlier-size (sums 3 snap) (2 ^ 50) (velocity-most X a b c e D h) 0 k)
+            (earlier-size (sums 3 snap) (2 ^ 50) (velocity-most X a b c e D h) 1 k);
       }

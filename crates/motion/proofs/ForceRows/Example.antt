@@ -1,5 +1,5 @@
 -- The hypotheses of `u-is-half` and `rigid-row` can be met: the first of document 01's moves, with a machine of small whole numbers, in
--- every row. Assumes nothing.
+-- every row.
 use mathlib.Core.Bool.{Bool, true, false, _&&_}
 use mathlib.Core.List.{List, [], _∷_}
 use mathlib.Core.Logic.{inl, inr}
@@ -13,6 +13,8 @@ use lib.Ieee.{Float, fin, up, down, lt, eq, le}
 use lib.ListN.{getD, replicate}
 use lib.Ieee.Fits.{and-l, and-r}
 use Rattle.planner.specs.Quantities.{unitsPerCount, distance}
+use Rattle.planner.specs.Direction.{along}
+use Rattle.planner.specs.Direction as planner
 use Rattle.planner.specs.Least.{firstFrom, least}
 use Rattle.planner.specs.Intervals.{interval-a, interval-b, interval-c, interval-e, a, J₁, b, A₁, c, V₁, e}
 use Rattle.planner.specs.Outcome.{firstRefusal, samplesOf, outcomeOf}
@@ -21,12 +23,10 @@ use Rattle.profile.specs.Segments.{segments, level, signed, snapIn}
 use Rattle.profile.specs.Sums.{sum}
 use Rattle.profile.specs.Profile as profile
 use Rattle.motion.specs.Direction as direction
-use Rattle.planner.specs.Direction.{along}
 use Rattle.motion.specs.ForceRows.Machine.{Machine, plusZero, asRead, machineAsRead, inRange, machineInRange}
 use Rattle.motion.specs.ForceRows.Doubled.{Doubled, earlier, upTo, doubled}
 use Rattle.motion.specs.ForceRows.Formula.{wholes, sumInU, q1, q2, q3, q4, weightedSum}
-use Rattle.motion.specs.ForceRows.Exact as exact
-use Rattle.motion.specs.ForceRows.Exact.{IsWhole, IsRounded, IsWholeMachine, Made, leaf, sumOf, productOf, inWholes, Within53, madeU}
+use Rattle.motion.specs.ForceRows.Exact.{IsWhole, IsRounded, IsWholeMachine, Expression, leaf, sumOf, productOf, inWholes, Within53, expressionOfU}
 use Rattle.motion.specs.Values as value
 use Rattle.motion.specs.ForceRows.Table.{machineCheck, rowNumbers, force, FillsForce}
 use Rattle.motion.specs.Inner.Planned.{plannedNumbers}
@@ -58,7 +58,7 @@ pub whole : Machine ℤ
 whole = record { m1 = pos 3; m2 = pos 2; k1 = pos 1; k2 = pos 5; k12 = pos 0; c = pos 7 }
 
 is-whole : IsWholeMachine machine whole
-unfolding machine whole exact.signed
+unfolding machine whole planner.signed
 is-whole = record { m1 = exactly refl; m2 = exactly refl; k1 = exactly refl; k2 = exactly refl; k12 = exactly refl; c = exactly refl }
   where
     exactly : {m n : ℕ} {e : ℤ} → m * up e * 1 ≡ n * down e → IsWhole (fin false m e) (pos n)
@@ -69,7 +69,7 @@ unfolding machine machineAsRead machineInRange asRead inRange le lt eq
 in-range = refl
 
 -- whether every product and partial sum is at most 2^53 in size, by computation
-within : Made → Bool
+within : Expression → Bool
 within (leaf x z) = true
 within (sumOf s t) = within s && within t && leb (natAbs (inWholes s +ℤ inWholes t)) (2 ^ 53)
 within (productOf s t) = within s && within t && leb (natAbs (inWholes s *ℤ inWholes t)) (2 ^ 53)
@@ -79,7 +79,7 @@ three true true r h = (tt, tt, h)
 three true false r h = absurd h
 three false q r h = absurd h
 
-all-within : (t : Made) → T (within t) → Within53 t
+all-within : (t : Expression) → T (within t) → Within53 t
 unfolding within Within53
 all-within (leaf x z) h = tt
 all-within (sumOf s t) h =
@@ -95,10 +95,12 @@ allBelow f (suc n) = allBelow f n && f n
 
 -- rows 0 to 9
 computed : ℕ → Bool
-computed k = within (madeU machine whole (plannedNumbers (pos 8) 1 1 2 4 G k))
+computed k = within (expressionOfU machine whole (plannedNumbers (pos 8) 1 1 2 4 G k))
 
 rows : T (allBelow computed 10)
-unfolding allBelow computed within machine whole inWholes sumInU weightedSum q1 q2 q3 q4 doubled earlier upTo direction.snap direction.jerk direction.acceleration direction.velocity along profile.snap profile.jerk profile.acceleration profile.velocity sum segments snapIn signed level
+unfolding allBelow computed within machine whole inWholes sumInU weightedSum q1 q2 q3 q4 doubled earlier upTo
+    direction.snap direction.jerk direction.acceleration direction.velocity along
+    profile.snap profile.jerk profile.acceleration profile.velocity sum segments snapIn signed level
 rows = tt
 
 all-below : (f : ℕ → Bool) (n : ℕ) → T (allBelow f n) → (k : ℕ) → k < n → T (f k)
@@ -110,23 +112,31 @@ all-below f (suc n) h k l =
       | inr q ↦ all-below f n (and-l (allBelow f n) (f n) h) k (le-of-suc-le-suc q)
     ]
 
-rows-within : (k : ℕ) → k < 10 → Within53 (madeU machine whole (rowNumbers (pos 8) (2 * G) G G G k))
+rows-within : (k : ℕ) → k < 10 → Within53 (expressionOfU machine whole (rowNumbers (pos 8) (2 * G) G G G k))
 unfolding computed
 rows-within k l =
-    subst (λ (w : ℕ → Doubled ℤ). Within53 (madeU machine whole (w k))) (numbers-are plan)
-    (all-within (madeU machine whole (plannedNumbers (pos 8) 1 1 2 4 G k)) (all-below computed 10 rows k l))
+    subst (λ (w : ℕ → Doubled ℤ). Within53 (expressionOfU machine whole (w k))) (numbers-are plan)
+    (all-within (expressionOfU machine whole (plannedNumbers (pos 8) 1 1 2 4 G k)) (all-below computed 10 rows k l))
 
 -- so every row of their table is the exact half-sum over c, rounded once: here the rule's own table, in ten places
 abbrev pub ten : List Float
 ten = replicate 10 plusZero
 
 abbrev pub filledTen : List Float
-filledTen = ruleTable (pos 8) (2 * G) G G G (machineCheck machine ∷ []) (value.N (pos 8) (2 * G) G G G + 2) (force (pos 8) (2 * G) G G G machine) ten
+filledTen =
+    ruleTable (pos 8) (2 * G) G G G (machineCheck machine ∷ []) (value.N (pos 8) (2 * G) G G G + 2)
+    (force (pos 8) (2 * G) G G G machine) ten
 
-pub exact-example : (k : ℕ) → k < 10 → IsRounded (getD filledTen k plusZero) (sumInU wholes whole (rowNumbers (pos 8) (2 * G) G G G k)) (2 * 7)
+pub exact-example :
+    (k : ℕ)
+    → k < 10
+    → IsRounded (getD filledTen k plusZero) (sumInU wholes whole (rowNumbers (pos 8) (2 * G) G G G k)) (2 * 7)
 unfolding whole FillsForce
 exact-example k l =
     let rows : value.N (pos 8) (2 * G) G G G + 2 ≡ 10 = sym (rows-are plan 2) in
-    let filled = rule-fills (pos 8) (2 * G) G G G (machineCheck machine ∷ []) (value.N (pos 8) (2 * G) G G G + 2) (force (pos 8) (2 * G) G G G machine) ten in
-    rigid-row (pos 8) (2 * G) G G G (plan .facts .accepted) machine whole is-whole in-range refl ten filledTen _ (rw rows (lit≤ tt)) filled k (rw rows l)
+    let filled =
+    rule-fills (pos 8) (2 * G) G G G (machineCheck machine ∷ []) (value.N (pos 8) (2 * G) G G G + 2)
+    (force (pos 8) (2 * G) G G G machine) ten in
+    rigid-row (pos 8) (2 * G) G G G (plan .facts .accepted) machine whole is-whole in-range refl ten filledTen _
+    (rw rows (lit≤ tt)) filled k (rw rows l)
     (rows-within k l)

@@ -1,4 +1,4 @@
--- Every force row of an accepted move and a machine in range is a finite number. Assumes nothing.
+-- Every force row of an accepted move and a machine in range is a finite number.
 use mathlib.Core.Bool.{Bool, true, false, cond}
 use mathlib.Core.Path.{_≡_, refl}
 use Prim.Native.Nat.{ℕ, zero, suc, _+_, _*_, _^_, _<_}
@@ -74,4 +74,5 @@ module _ (m : Machine Float) (w : ℕ → Doubled ℤ) (range : InRange m) (cast
 pub rows-finite : FiniteClaim
 unfolding force value.N
 rows-finite X V₀ A₀ J₀ S₀ h m range k l =
-    row-finite (machineAsRead m) (rowNumbers X V₀ A₀ J₀ S₀) (in-range (machineAsRead m) range) (rows-castable h) k (omega (arith, h .short-enough))
+    row-finite (machineAsRead m) (rowNumbers X V₀ A₀ J₀ S₀) (in-range (machineAsRead m) range) (rows-castable h) k
+    (omega (arith, h .short-enough))

@@ -1,4 +1,4 @@
--- The force rows of a plan, written along it: what is carried along gives the rule's row at each sample. Assumes nothing.
+-- The force rows of a plan, written along it: what is carried along gives the rule's row at each sample.
 use mathlib.Core.List.{List}
 use mathlib.Core.Path.{_≡_, refl, sym, ap, ap₂, subst, _∙_, fun-ext}
 use Prim.Native.Nat.{ℕ, zero, suc, _+_, _≤_}
@@ -84,7 +84,11 @@ module _ (X : ℤ) (a b c e D : ℕ) (h : WithinRange a b c e D) {m : Machine Fl
   abbrev snap : ℕ → ℤ
   snap = direction.snap X a b c e D
 
-  pub forces-can-run : (more : ℕ) {places : ℕ} → more ≤ 2 → N a b c e + more ≤ places → CanRun (forceWriter x) (run X a b c e D h more) firstRow places
+  pub forces-can-run :
+      (more : ℕ) {places : ℕ}
+      → more ≤ 2
+      → N a b c e + more ≤ places
+      → CanRun (forceWriter x) (run X a b c e D h more) firstRow places
   unfolding rowStateAt earlierAt previousRow doubled earlier sum sums
   forces-can-run more few l =
       can-run X a b c e D h (carried is snap) more

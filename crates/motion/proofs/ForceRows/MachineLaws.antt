@@ -1,4 +1,4 @@
--- Which machines are in range, and which drive they have. Assumes nothing.
+-- Which machines are in range, and which drive they have.
 use mathlib.Core.Bool.{Bool, true, false, true≢false, cond, _&&_}
 use mathlib.Core.Path.{_≡_, refl, sym, ap, subst}
 use lib.Dec.{T}
@@ -71,7 +71,8 @@ in-range m h =
 -- a number in range lies between 0 and 2^20
 pub range-parts : (x : Float) → T (inRange x) → T (le plusZero x) × T (le x most)
 unfolding inRange
-range-parts x h = (and-r (finite x) (le plusZero x) (and-l (finite x && le plusZero x) (le x most) h), and-r (finite x && le plusZero x) (le x most) h)
+range-parts x h =
+    (and-r (finite x) (le plusZero x) (and-l (finite x && le plusZero x) (le x most) h), and-r (finite x && le plusZero x) (le x most) h)
 
 -- the stiffness of a machine in range is a number above 0
 pub stiffness-positive : (m : Machine Float) → InRange m → T (positive (m .c))

@@ -1,4 +1,4 @@
--- A cast, and the sum, product and quotient of floats that are fractions, are the exact result rounded once. Assumes nothing.
+-- A cast, and the sum, product and quotient of floats that are fractions, are the exact result rounded once.
 use mathlib.Core.Bool.{Bool, true, false}
 use mathlib.Core.Path.{_≡_, refl, sym, ap, ap₂, subst₂, _∙_}
 use Prim.Native.Nat.{ℕ, suc, _*_, _<_}
@@ -11,7 +11,8 @@ use lib.Ieee.{Float, nan, inf, fin, binary64, unlike, up, down, round, sum, add,
 use lib.Ieee.Fits.{up-pos, down-pos}
 use lib.Ieee.Scale.{round-same}
 use lib.Ieee.Positive.{first-pos}
-use Rattle.motion.specs.ForceRows.Exact.{signed, IsFraction, IsWhole, IsHalf, IsRounded}
+use Rattle.planner.specs.Direction.{signed}
+use Rattle.motion.specs.ForceRows.Exact.{IsFraction, IsWhole, IsHalf, IsRounded}
 use Rattle.motion.proofs.ForceRows.SignedLaws.{size-signed, signed-product, quotient-sign}
 use Rattle.motion.proofs.ForceRows.SignedSums.{signed-sum, sum-scaled}
 
@@ -20,7 +21,7 @@ unfolding ofInt signed
 cast-rounded (pos n) = record { negative = false; size = n; whole-is = refl; rounded = refl }
 cast-rounded (negsuc n) = record { negative = true; size = suc n; whole-is = refl; rounded = refl }
 
--- ---- two finite floats
+-- two finite floats
 over : (m a e d : ℕ) → m * 1 ≡ a * e → m * d ≡ e * d * a
 over m a e d v = ap (λ (n : ℕ). n * d) (sym (mul-one m) ∙ v) ∙ simp (mul-assoc, mul-comm, mul-left-comm)
 
@@ -87,7 +88,7 @@ module _ (s t : Bool) (m n : ℕ) (e d : ℤ) where
               ∙ rw (quotient-sign s t b c positive h) (round-same binary64 s _ _ _ _ D (mul-pos (lit< tt) positive) same);
         }
 
--- ---- any two floats that are fractions: they are finite
+-- any two floats that are fractions: they are finite
 pub by-form :
     {n : ℕ} (P : Float → ℤ → Type 0)
     → ((s : Bool) (m : ℕ) (e : ℤ) (a : ℕ) → m * up e * n ≡ a * down e → P (fin s m e) (signed s a))

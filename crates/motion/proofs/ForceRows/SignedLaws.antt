@@ -1,4 +1,4 @@
--- The whole number of a sign and a size: its size, sums and products. Assumes nothing.
+-- The whole number of a sign and a size: its size, sums and products.
 use mathlib.Core.Bool.{Bool, true, false, not, _&&_}
 use mathlib.Core.Path.{_≡_, refl, sym, ap, _∙_}
 use Prim.Native.Nat.{ℕ, zero, suc, _+_, _-_, _*_, _≤_, _<_}
@@ -8,7 +8,7 @@ use borrow.Author.Tests.{ltb-false}
 use lib.Dec.{ltb}
 use lib.IntN.{pos, negℤ, natAbs, _+ℤ_, _*ℤ_, negℤ-+ℤ, negℤ-negℤ, *ℤ-comm, zero-*ℤ, pos-ne-negsuc}
 use lib.Ieee.{unlike}
-use Rattle.motion.specs.ForceRows.Exact.{signed}
+use Rattle.planner.specs.Direction.{signed}
 use Rattle.motion.proofs.IntegerLaws.{size-negated, negated-difference, multiple-negated, difference}
 
 pub size-signed : (s : Bool) (a : ℕ) → natAbs (signed s a) ≡ a

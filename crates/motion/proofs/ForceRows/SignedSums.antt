@@ -1,4 +1,4 @@
--- The sum of ±a/c and ±b/c is the exact sum rounded once, and a common factor changes nothing. Assumes nothing.
+-- The sum of ±a/c and ±b/c is the exact sum rounded once, and a common factor changes nothing.
 use mathlib.Core.Bool.{Bool, true, false, not, cond, _&&_, Bool·not-not}
 use mathlib.Core.Path.{_≡_, refl, _∙_}
 use Prim.Native.Nat.{ℕ, _+_, _-_, _*_, _<_}
@@ -8,7 +8,8 @@ use lib.Dec.{ltb, lit<}
 use lib.IntN.{_+ℤ_, +ℤ-comm}
 use lib.Ieee.{binary64, round, sum}
 use lib.Ieee.Scale.{round-same}
-use Rattle.motion.specs.ForceRows.Exact.{signed, IsRounded}
+use Rattle.planner.specs.Direction.{signed}
+use Rattle.motion.specs.ForceRows.Exact.{IsRounded}
 use Rattle.motion.proofs.ForceRows.SignedLaws.{alike-sum, unlike-sum, zero-sign}
 
 alike-rounded : (s : Bool) (a b c : ℕ) → IsRounded (round binary64 s (a + b) c) (signed s a +ℤ signed s b) c

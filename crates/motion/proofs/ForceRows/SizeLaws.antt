@@ -1,4 +1,4 @@
--- The sizes of floats: what is rounded keeps their order, and the sign does not matter. Assumes nothing.
+-- The sizes of floats: what is rounded keeps their order, and the sign does not matter.
 use mathlib.Core.Bool.{Bool, true, false, cond, _&&_, _||_}
 use mathlib.Core.Path.{_≡_, sym, _∙_}
 use Prim.Native.Nat.{ℕ, zero, suc, _+_, _*_, _^_, _≤_, _<_, zero-le}
@@ -21,7 +21,7 @@ pub record _⪯_ (x y : Float) : Type 0 where
   pub is-finite : T (finite x)
   pub size-le : num x * den y ≤ num y * den x
 
-pub ⪯-trans : {x y z : Float} → x ⪯ y → y ⪯ z → x ⪯ z
+⪯-trans : {x y z : Float} → x ⪯ y → y ⪯ z → x ⪯ z
 ⪯-trans {x} {y} {z} h k =
     record { is-finite = h .is-finite; size-le = through (num x) (num y) (num z) (den x) (den y) (den z) (den-pos y) (h .size-le) (k .size-le) }
 
@@ -32,7 +32,7 @@ pub ⪯-closed : (x y : Float) → T (finite x && leb (num x * den y) (num y * d
     let m = num y * den x in
     record { is-finite = and-l (finite x) (leb n m) h; size-le = leb→le n m (and-r (finite x) (leb n m) h) }
 
--- ---- the order of floats from zero on
+-- the order of floats from zero on
 equal : (a b : ℕ) (t : Bool) → T (eqb a b && t) → a ≡ b
 equal a b t h = eqb→eq a b (and-l (eqb a b) t h)
 
@@ -63,7 +63,7 @@ unfolding le lt eq
     let b = n * up d * down e in
     record { is-finite = tt; size-le = ≤-of-le a b (ltb a b) true (ltb→lt a b) h }
 
--- ---- the sign of what is rounded
+-- the sign of what is rounded
 signs-units : (s t : Bool) (q k : ℕ) → T (finite (units binary64 t q k)) → units binary64 s q k ⪯ units binary64 t q k
 unfolding units odd
 signs-units s t q k = by-test (ltb (q * 2 ^ k) (2 ^ 2098)) q
@@ -79,7 +79,7 @@ signs-units s t q k = by-test (ltb (q * 2 ^ k) (2 ^ 2098)) q
 signs : (s t : Bool) (a b : ℕ) → T (finite (round binary64 t a b)) → round binary64 s a b ⪯ round binary64 t a b
 signs s t a b = rw (round-is binary64 s a b, round-is binary64 t a b) (signs-units s t _ _)
 
--- ---- of two fractions the larger is rounded to the larger
+-- of two fractions the larger is rounded to the larger
 pub round-⪯ :
     (s t : Bool) (a b c d : ℕ)
     → 0 < b
@@ -91,10 +91,11 @@ unfolding round
 round-⪯ s t a b c d B D l f =
     let above = signs false t c d f in
     let from-zero = round-mono binary64 0 1 a b (lit< tt) B (le-trans (le-of-eq (zero-mul b)) zero-le) in
-    let below = ⪯-of-le (round binary64 false a b) (round binary64 false c d) from-zero (round-mono binary64 a b c d B D l) (above .is-finite) in
+    let below =
+    ⪯-of-le (round binary64 false a b) (round binary64 false c d) from-zero (round-mono binary64 a b c d B D l) (above .is-finite) in
     ⪯-trans (signs s false a b (below .is-finite)) (⪯-trans below above)
 
--- ---- the bound q·2^j
+-- the bound q·2^j
 abbrev pub bound : ℕ → ℕ → Float
 bound q j = fin false q (pos j)
 

@@ -1,5 +1,5 @@
 -- The claims of specs/ForceRows/Claims.antt. They rest on the rules (planner), on the laws of the profile (profile)
--- and on the promise of the entry alone. Assumes nothing.
+-- and on the promise of the entry alone.
 use mathlib.Core.Bool.{Bool, true, false, not}
 use mathlib.Core.Path.{_≡_, refl, sym, ap, subst, _∙_}
 use Prim.Native.Nat.{ℕ, _*_, _<_}
@@ -7,14 +7,15 @@ use lib.Dec.{T, lit<}
 use lib.IntN.{ℤ, pos, natAbs}
 use lib.Ieee.{Float, fin, up, down, eq}
 use lib.Ieee.Positive.{positive, value-pos}
+use Rattle.planner.specs.Direction.{signed}
 use Rattle.planner.specs.Accepted.{Accepted}
 use Rattle.motion.specs.ForceRows.Machine.{Machine, plusZero, asRead, machineAsRead}
 use Rattle.motion.specs.ForceRows.Doubled.{Doubled, cast}
 use Rattle.motion.specs.ForceRows.Formula.{sumInU, q1, q2, q3, q4, weightedSum}
-use Rattle.motion.specs.ForceRows.Exact.{signed, IsWhole, inWholes, Within53}
+use Rattle.motion.specs.ForceRows.Exact.{IsWhole, inWholes, Within53}
 use Rattle.motion.specs.Inner.Rows.{Castable}
 use Rattle.motion.specs.ForceRows.Table.{rowNumbers, force, FillsForce}
-use Rattle.motion.specs.ForceRows.Claims.{CastClaim, ExactClaim, RigidClaim, SameButZero, same, minus, SameButZeros, MinusZeroClaim}
+use Rattle.motion.specs.ForceRows.Claims.{CastClaim, HalfSumClaim, RigidClaim, SameButZero, same, minus, SameButZeros, MinusZeroClaim}
 use Rattle.motion.proofs.EntryLaws.{entered-rule, within-range, numbers-are}
 use Rattle.motion.proofs.FillLaws.{filled-row}
 use Rattle.motion.proofs.ForceRows.DoubledLaws as doubled
@@ -27,7 +28,8 @@ pub rows-castable : {X : ℤ} {V₀ A₀ J₀ S₀ : ℕ} → Accepted X V₀ A�
 rows-castable {X} h k =
     let p = entered-rule h in
     let w = within-range p in
-    subst (λ (w : ℕ → Doubled ℤ). Castable (w k)) (sym (doubled.numbers-are X _ _ _ _ _ w) ∙ numbers-are p) (doubled.castable X _ _ _ _ _ w k)
+    subst (λ (w : ℕ → Doubled ℤ). Castable (w k)) (sym (doubled.numbers-are X _ _ _ _ _ w) ∙ numbers-are p)
+    (doubled.castable X _ _ _ _ _ w k)
 
 pub casts-exact : CastClaim
 unfolding cast
@@ -35,7 +37,7 @@ casts-exact X V₀ A₀ J₀ S₀ h k =
     let c = rows-castable h k in
     record { d2 = cast-exact _ (c .d2); j2 = cast-exact _ (c .j2); a2 = cast-exact _ (c .a2); v2 = cast-exact _ (c .v2) }
 
-pub u-is-half : ExactClaim
+pub u-is-half : HalfSumClaim
 unfolding Within53 inWholes sumInU weightedSum q1 q2 q3 q4
 u-is-half X V₀ A₀ J₀ S₀ h m whole is k within =
     u-exact (machineAsRead m) whole (rowNumbers X V₀ A₀ J₀ S₀) k (read-whole-machine is) (rows-castable h k) within
@@ -45,7 +47,11 @@ above-zero : {x : Float} {z : ℤ} → T (positive x) → IsWhole x z → (z ≡
 unfolding signed
 above-zero p h = by-form (λ x z. T (positive x) → (z ≡ pos (natAbs z)) × (0 < natAbs z)) form h p
   where
-    form : (s : Bool) (m : ℕ) (e : ℤ) (a : ℕ) → m * up e * 1 ≡ a * down e → T (positive (fin s m e)) → (signed s a ≡ pos (natAbs (signed s a))) × (0 < natAbs (signed s a))
+    form :
+        (s : Bool) (m : ℕ) (e : ℤ) (a : ℕ)
+        → m * up e * 1 ≡ a * down e
+        → T (positive (fin s m e))
+        → (signed s a ≡ pos (natAbs (signed s a))) × (0 < natAbs (signed s a))
     form false m e a v p = (refl, value-pos (fin false m e) a 1 p (lit< tt) (refl, v))
     form true m e a v p = absurd p
 

@@ -1,5 +1,4 @@
 -- Up to 2^53 in size, casts to whole floats and their sums, products and halves lose nothing; neither does reading a minus zero.
--- Assumes nothing.
 use mathlib.Core.Bool.{Bool, true, false, cond, or-true, Bool·beq}
 use mathlib.Core.Logic.{inl, inr}
 use mathlib.Core.Path.{_≡_, refl, sym, ap, _∙_}
@@ -14,9 +13,10 @@ use lib.Ieee.{Float, fin, binary64, up, down, round, add, mul, ofInt, eq}
 use lib.Ieee.Fits.{down-pos}
 use lib.Ieee.Exact.{HasValue, round-exact}
 use lib.Ieee.Back.{round-whole}
+use Rattle.planner.specs.Direction.{signed}
 use Rattle.motion.specs.ForceRows.Machine.{Machine, plusZero, asRead, machineAsRead}
 use Rattle.motion.specs.ForceRows.Force.{half}
-use Rattle.motion.specs.ForceRows.Exact.{signed, IsFraction, IsWhole, IsHalf, IsRounded, IsWholeMachine}
+use Rattle.motion.specs.ForceRows.Exact.{IsFraction, IsWhole, IsHalf, IsRounded, IsWholeMachine}
 use Rattle.motion.proofs.ForceRows.SignedLaws.{size-signed, signed-zero}
 use Rattle.motion.proofs.ForceRows.RoundedLaws.{by-form, cast-rounded, sum-rounded, product-rounded}
 
@@ -44,7 +44,7 @@ whole-sum h k = exact-of (round-whole binary64) (sum-rounded h k)
 pub whole-product : {x y : Float} {z w : ℤ} → IsWhole x z → IsWhole y w → natAbs (z *ℤ w) ≤ 2 ^ 53 → IsWhole (mul binary64 x y) (z *ℤ w)
 whole-product h k = exact-of (round-whole binary64) (product-rounded (lit< tt) (lit< tt) h k)
 
--- ---- halves: 2^53 is one digit more than a float keeps, and a power of two
+-- halves: 2^53 is one digit more than a float keeps, and a power of two
 round-half : (s : Bool) (a : ℕ) → a ≤ 2 ^ 53 → HasValue (round binary64 s a 2) s a 2
 round-half s a h =
     elim (eq-or-lt-of-le h) [
@@ -59,7 +59,7 @@ half-exact {z} h = exact-of round-half (rw (*ℤ-one z) at (product-rounded (lit
     is-half : IsHalf half (pos 1)
     is-half = record { negative = false; size = 1; whole-is = refl; value = (refl, refl) }
 
--- ---- "Minus zero is read as plus zero."
+-- "Minus zero is read as plus zero."
 equals-zero : (s : Bool) (m : ℕ) (e : ℤ) (a : ℕ) → m * up e * 1 ≡ a * down e → eq (fin s m e) plusZero ≡ eqb a 0
 unfolding eq
 equals-zero s m e zero v = rw (v, zero-mul (down e), or-true (Bool·beq s false))
@@ -78,7 +78,7 @@ unfolding signed
 read-form s m e zero v = record { negative = false; size = 0; whole-is = signed-zero s; value = (refl, refl) }
 read-form s m e (suc a) v = rw (eqb·suc-zero a) (record { negative = s; size = suc a; whole-is = refl; value = (refl, v) })
 
-pub read-whole : {x : Float} {z : ℤ} → IsWhole x z → IsWhole (asRead x) z
+read-whole : {x : Float} {z : ℤ} → IsWhole x z → IsWhole (asRead x) z
 unfolding asRead
 read-whole h = by-form (λ x z. IsWhole (asRead x) z) (λ s m e a v. rw (equals-zero s m e a v) (read-form s m e a v)) h
 

@@ -1,4 +1,4 @@
--- `fill_force` meets its contract: the planner's answer, taken apart, leads to the refusal or to the plan's rows. Assumes nothing.
+-- `fill_force` meets its contract: the planner's answer, taken apart, leads to the refusal or to the plan's rows.
 use borrow.Author.Needs.{needs}
 use mir.Syntax.{w64}
 use mir.Facts.{toZ-ofZ}

@@ -1,4 +1,4 @@
--- `fill_positions` meets its contract: the planner's answer, taken apart, leads to the refusal or to the plan's rows. Assumes nothing.
+-- `fill_positions` meets its contract: the planner's answer, taken apart, leads to the refusal or to the plan's rows.
 use borrow.Author.Needs.{needs}
 use mir.Syntax.{w64}
 use mir.Facts.{toZ-ofZ}
@@ -36,7 +36,9 @@ returns-2 : tie.Need-returns-2
 unfolding FillsPositions
 returns-2 c =
     let d = c .before .before .before .before .before in
-    let back = toZ-ofZ {w = w64} {z = d .before .before .before .args .m .displacement} (record { sfits = c .before .before .struct-told .given .0 .1 }) in
+    let back =
+    toZ-ofZ {w = w64} {z = d .before .before .before .args .m .displacement}
+    (record { sfits = c .before .before .struct-told .given .0 .1 }) in
     let h = entered (d .before .before .plan-move .ensures) (d .answer .given .1) in
     fills h (rows-are h 1) (position-is h) (rw back at (c .before .write-positions .ensures))
 

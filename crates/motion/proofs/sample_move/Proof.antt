@@ -1,4 +1,4 @@
--- `sample_move` meets its contract: the planner's answer, taken apart, leads to the refusal or to the plan's sample. Assumes nothing.
+-- `sample_move` meets its contract: the planner's answer, taken apart, leads to the refusal or to the plan's sample.
 use borrow.Author.Needs.{needs}
 use mir.Syntax.{w64}
 use mir.Facts.{toZ-ofZ}
@@ -33,7 +33,9 @@ returns-2 : tie.Need-returns-2
 returns-2 c = sample-past (plan (c .before .before .before)) (rw (c .before .samples-in-plan .ensures) at (c .if1 .taken))
 
 sample-in-plan-requires : tie.Need-sample-in-plan-requires
-sample-in-plan-requires c κs = (within-range (plan (c .before .before .before .before)), rw (c .before .before .samples-in-plan .ensures) at (c .before .if1 .left))
+sample-in-plan-requires c κs =
+    let d = c .before .before in
+    (within-range (plan (d .before .before)), rw (d .samples-in-plan .ensures) at (c .before .if1 .left))
 
 returns-3 : tie.Need-returns-3
 returns-3 c =

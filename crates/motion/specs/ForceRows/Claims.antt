@@ -15,7 +15,7 @@ use Rattle.motion.specs.ForceRows.Machine.{Machine, minusZero, plusZero,
 use Rattle.motion.specs.ForceRows.Doubled.{cast}
 use Rattle.motion.specs.ForceRows.Formula.{wholes, sumInU}
 use Rattle.motion.specs.ForceRows.Force.{u}
-use Rattle.motion.specs.ForceRows.Exact.{IsHalf, IsRounded, IsWholeMachine, IsWholeRow, Within53, madeU}
+use Rattle.motion.specs.ForceRows.Exact.{IsHalf, IsRounded, IsWholeMachine, IsWholeRow, Within53, expressionOfU}
 use Rattle.motion.specs.Result.{Result}
 use Rattle.motion.specs.ForceRows.Table.{rowNumbers, force, FillsForce}
 
@@ -28,14 +28,14 @@ CastClaim =
     → IsWholeRow (cast (rowNumbers X V₀ A₀ J₀ S₀ k)) (rowNumbers X V₀ A₀ J₀ S₀ k)
 
 -- "If the six numbers are whole and every product and partial sum is at most 2^53 in size, then u is exactly half the whole-number sum."
-abbrev pub ExactClaim : Type 0
-ExactClaim =
+abbrev pub HalfSumClaim : Type 0
+HalfSumClaim =
     (X : ℤ) (V₀ A₀ J₀ S₀ : ℕ)
     → Accepted X V₀ A₀ J₀ S₀
     → (m : Machine Float) (whole : Machine ℤ)
     → IsWholeMachine m whole
     → (k : ℕ)
-    → Within53 (madeU m whole (rowNumbers X V₀ A₀ J₀ S₀ k))
+    → Within53 (expressionOfU m whole (rowNumbers X V₀ A₀ J₀ S₀ k))
     → IsHalf (u (machineAsRead m) (rowNumbers X V₀ A₀ J₀ S₀) k) (sumInU wholes whole (rowNumbers X V₀ A₀ J₀ S₀ k))
 
 -- Hence row k of every table that is filled for a rigid drive is that half-sum divided by c, rounded once.
@@ -52,7 +52,7 @@ RigidClaim =
     → FillsForce X V₀ A₀ J₀ S₀ m old rows new
     → (k : ℕ)
     → k < value.N X V₀ A₀ J₀ S₀ + 2
-    → Within53 (madeU m whole (rowNumbers X V₀ A₀ J₀ S₀ k))
+    → Within53 (expressionOfU m whole (rowNumbers X V₀ A₀ J₀ S₀ k))
     → IsRounded (getD new k plusZero) (sumInU wholes whole (rowNumbers X V₀ A₀ J₀ S₀ k)) (2 * natAbs (whole .c))
 
 -- Every row of an accepted move and a machine in range is a finite number: no NaN and no infinity reaches the drive.

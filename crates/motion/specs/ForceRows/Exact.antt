@@ -1,17 +1,14 @@
 -- Document 01, "Force rows": floats that are whole numbers, or halves of them, exactly.
-use mathlib.Core.Bool.{Bool, cond}
+use mathlib.Core.Bool.{Bool}
 use mathlib.Core.Path.{_≡_}
 use Prim.Native.Nat.{ℕ, _≤_, _^_}
-use lib.IntN.{ℤ, pos, negℤ, natAbs, _+ℤ_, _*ℤ_}
+use lib.IntN.{ℤ, natAbs, _+ℤ_, _*ℤ_}
 use lib.Ieee.{Float, binary64, round}
 use lib.Ieee.Exact.{HasValue}
+use Rattle.planner.specs.Direction.{signed}
 use Rattle.motion.specs.ForceRows.Machine.{Machine}
 use Rattle.motion.specs.ForceRows.Doubled.{Doubled, cast}
 use Rattle.motion.specs.ForceRows.Formula.{Arithmetic, sumInU}
-
--- The whole number of this sign and size.
-unfoldable pub signed : (negative : Bool) (size : ℕ) → ℤ
-signed negative size = cond negative (negℤ (pos size)) (pos size)
 
 -- The float x is z/n and nothing is lost. Either zero is 0.
 pub record IsFraction (x : Float) (z : ℤ) (n : ℕ) : Type 0 where
@@ -49,28 +46,28 @@ pub record IsWholeRow (x : Doubled Float) (w : Doubled ℤ) : Type 0 where
   pub a2 : IsWhole (x .a2) (w .a2)
   pub v2 : IsWhole (x .v2) (w .v2)
 
--- A formula by how it is made; each leaf is a number as a float and as the whole number that it stands for.
-pub data Made : Type 0 where
-  leaf : (float : Float) (whole : ℤ) → Made
-  sumOf productOf : Made → Made → Made
+-- A formula as it is written; each leaf is a number as a float and as the whole number that it stands for.
+pub data Expression : Type 0 where
+  leaf : (float : Float) (whole : ℤ) → Expression
+  sumOf productOf : Expression → Expression → Expression
 
-abbrev pub made : Arithmetic Made
-made = record { _⊞_ = sumOf; _⊠_ = productOf }
+abbrev pub expressions : Arithmetic Expression
+expressions = record { _⊞_ = sumOf; _⊠_ = productOf }
 
-unfoldable pub inWholes : Made → ℤ
+unfoldable pub inWholes : Expression → ℤ
 inWholes (leaf x z) = z
 inWholes (sumOf s t) = inWholes s +ℤ inWholes t
 inWholes (productOf s t) = inWholes s *ℤ inWholes t
 
 -- "every product and partial sum is at most 2^53 in size"
-unfoldable pub Within53 : Made → Type 0
+unfoldable pub Within53 : Expression → Type 0
 Within53 (leaf x z) = Unit {0}
 Within53 (sumOf s t) = Within53 s × Within53 t × (natAbs (inWholes s +ℤ inWholes t) ≤ 2 ^ 53)
 Within53 (productOf s t) = Within53 s × Within53 t × (natAbs (inWholes s *ℤ inWholes t) ≤ 2 ^ 53)
 
 module _ (m : Machine Float) (whole : Machine ℤ) (w : Doubled ℤ) where
-  abbrev madeMachine : Machine Made
-  madeMachine =
+  abbrev machineLeaves : Machine Expression
+  machineLeaves =
       record {
         m1 = leaf (m .m1) (whole .m1);
         m2 = leaf (m .m2) (whole .m2);
@@ -80,8 +77,8 @@ module _ (m : Machine Float) (whole : Machine ℤ) (w : Doubled ℤ) where
         c = leaf (m .c) (whole .c);
       }
 
-  abbrev madeRow : Doubled Made
-  madeRow =
+  abbrev rowLeaves : Doubled Expression
+  rowLeaves =
       record {
         d2 = leaf (cast w .d2) (w .d2);
         j2 = leaf (cast w .j2) (w .j2);
@@ -90,5 +87,5 @@ module _ (m : Machine Float) (whole : Machine ℤ) (w : Doubled ℤ) where
       }
 
   -- q1 to q4 and the sum in u.
-  abbrev pub madeU : Made
-  madeU = sumInU made madeMachine madeRow
+  abbrev pub expressionOfU : Expression
+  expressionOfU = sumInU expressions machineLeaves rowLeaves

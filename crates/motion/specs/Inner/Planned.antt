@@ -46,7 +46,10 @@ pub record WritesRows {E : Type 0} (own : List Check) (rows : ℕ) (row : ℕ �
 -- The doubled numbers of a plan's rows.
 abbrev pub plannedNumbers : ℤ → (a b c e D : ℕ) → ℕ → Doubled ℤ
 plannedNumbers X a b c e D =
-    doubled (upTo (N a b c e) (direction.snap X a b c e D)) (upTo (N a b c e) (direction.jerk X a b c e D)) (upTo (N a b c e) (direction.acceleration X a b c e D))
+    doubled
+    (upTo (N a b c e) (direction.snap X a b c e D))
+    (upTo (N a b c e) (direction.jerk X a b c e D))
+    (upTo (N a b c e) (direction.acceleration X a b c e D))
     (upTo (N a b c e) (direction.velocity X a b c e D))
 
 abbrev pub plannedForce : ℤ → (a b c e D : ℕ) → Machine Float → ℕ → Float

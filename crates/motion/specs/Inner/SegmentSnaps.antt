@@ -16,19 +16,19 @@ unfoldable pub snapsOf : List profile.Segment → (u v : ℤ) → List ℤ
 snapsOf [] u v = []
 snapsOf (segment n sign ∷ rest) u v = replicate n (level sign u v) ++ snapsOf rest u v
 
-pub record IsDurations (a b c e rest : ℕ) (d : Durations) : Type 0 where
+pub record IsDurations (a b c e more : ℕ) (d : Durations) : Type 0 where
   pub p-is : d .p ≡ durations.p a
   pub q-is : d .q ≡ durations.q a b
   pub r-is : d .r ≡ durations.r a b c
   pub s-is : d .s ≡ durations.s a b c e
-  pub rest-is : d .rest ≡ rest
+  pub more-is : d .more ≡ more
 
 -- The paper's fifteen segments, and one without snap for the rows after them.
-abbrev pub withRest : (p q r s rest : ℕ) → List profile.Segment
-withRest p q r s rest = segments p q r s ++ (segment rest none ∷ [])
+abbrev pub withMore : (p q r s more : ℕ) → List profile.Segment
+withMore p q r s more = segments p q r s ++ (segment more none ∷ [])
 
 abbrev pub segmentsOf : Durations → List profile.Segment
-segmentsOf d = withRest (d .p) (d .q) (d .r) (d .s) (d .rest)
+segmentsOf d = withMore (d .p) (d .q) (d .r) (d .s) (d .more)
 
 -- The snaps from segment i on are those of g and of the segments after it.
 pub record NextSegment (d : Durations) (levels : Levels) (i : ℕ) (g : Segment) : Type 0 where

@@ -1,4 +1,4 @@
--- `plan_move` meets its contract: the tests on the way decide the checks of the rule, one after the other. Assumes nothing.
+-- `plan_move` meets its contract: the tests on the way decide the checks of the rule, one after the other.
 use borrow.Author.Needs.{needs}
 use borrow.Author.Tests.{eq-eqb, ne-eqb, lt-ltb, le-ltb}
 use mathlib.Core.Path.{_≡_, sym, ap, _∙_}

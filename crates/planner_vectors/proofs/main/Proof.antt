@@ -1,4 +1,4 @@
--- `main` ends: it reads at most as many lines as it counts down from. Assumes nothing.
+-- `main` ends: it reads at most as many lines as it counts down from.
 use borrow.Author.Needs.{needs}
 use Prim.Native.Nat.{_≤_}
 use Rattle.planner_vectors.proofs.main.Statement.{statement}

@@ -1,4 +1,4 @@
--- `read_sheet` meets its contract: 12 comes first. Assumes nothing.
+-- `read_sheet` meets its contract: 12 comes first.
 use borrow.Author.Needs.{needs}
 use borrow.Author.Tests.{lt-ltb, le-ltb}
 use lib.ListN.{length}

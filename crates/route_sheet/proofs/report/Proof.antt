@@ -1,4 +1,4 @@
--- `report` meets its contract: what was read, as its lines. Assumes nothing.
+-- `report` meets its contract: what was read, as its lines.
 use borrow.Author.Needs.{needs}
 use mathlib.Core.List.{List}
 use mathlib.Core.Path.{_≡_, sym, ap, _∙_}
@@ -7,7 +7,7 @@ use native.Mathlib.Omega.{arith}
 use lib.ListN.{length}
 use Rattle.route_sheet.specs.Sheet.{mostSets, mostMoves}
 use Rattle.route_sheet.specs.Reading.{readSheet}
-use Rattle.route_sheet.specs.Answer.{Held, result, noSet, noMove, filled, refusal}
+use Rattle.route_sheet.specs.Answer.{Held, result, zeroSet, zeroMove, filled, refusal}
 use Rattle.route_sheet.specs.Result.{given}
 use Rattle.route_sheet.specs.Report.{sheetReport, reportText, mostReport}
 use Rattle.route_sheet.proofs.ReadingTheorems.{written-back}
@@ -43,10 +43,10 @@ sheet c =
     held-sheet (readSheet (textOf (c .before .before))) _ _
     (sym (ap (λ (x : Held). x .result) (read .ensures .held-is)) ∙ ap result (c .answer .given .1))
 
-set-places : (c : tie.After-answer) → c .before .before .read-sheet .result .sets ≡ filled mostSets noSet (sheet c .sheet .sets)
+set-places : (c : tie.After-answer) → c .before .before .read-sheet .result .sets ≡ filled mostSets zeroSet (sheet c .sheet .sets)
 set-places c = ap (λ (h : Held). h .sets) (c .before .before .read-sheet .ensures .held-is) ∙ sheet c .set-places
 
-move-places : (c : tie.After-answer) → c .before .before .read-sheet .result .moves ≡ filled mostMoves noMove (sheet c .sheet .moves)
+move-places : (c : tie.After-answer) → c .before .before .read-sheet .result .moves ≡ filled mostMoves zeroMove (sheet c .sheet .moves)
 move-places c = ap (λ (h : Held). h .moves) (c .before .before .read-sheet .ensures .held-is) ∙ sheet c .move-places
 
 put-moves-requires : tie.Need-put-moves-requires

@@ -7,7 +7,7 @@ use lib.Dec.{ltb}
 use lib.ListN.{length, take, drop}
 use Rattle.route_sheet.specs.Sheet.{Sheet, mostSets, mostMoves}
 use Rattle.route_sheet.specs.Reading.{Got, got, stuck, after, readLines, readSet, readMove, readSecond}
-use Rattle.route_sheet.specs.Answer.{noSet, noMove, filled}
+use Rattle.route_sheet.specs.Answer.{zeroSet, zeroMove, filled}
 use Rattle.route_sheet.specs.declared.BoundSet.{BoundSet}
 use Rattle.route_sheet.specs.declared.sections.SetsRead.{SetsRead}
 use Rattle.route_sheet.specs.declared.sections.MovesRead.{MovesRead}
@@ -19,12 +19,13 @@ pub record ValuesIn {A : Type 0} (most : ℕ) (unused : A) (count done : ℕ) (p
   pub done-are : length values ≡ done
   pub done-count : done ≤ count
 
-pub record Section {A : Type 0} (found : Got (List A)) (text : List ℕ) (most : ℕ) (unused : A) (count done next : ℕ) (places : List A) : Type 0 where
+pub record Section {A : Type 0} (found : Got (List A)) (text : List ℕ) (most : ℕ) (unused : A) (count done next : ℕ)
+    (places : List A) : Type 0 where
   pub lines : ValuesIn most unused count done places
   pub found-is : found ≡ cond (ltb done count) (stuck done) (got (lines .values) (drop next text))
 
 abbrev pub ReadsSets : (text : List ℕ) (from count : ℕ) → SetsRead → Type 0
-ReadsSets text from count r = Section (readLines readSet count (drop from text)) text mostSets noSet count (r .done) (r .next) (r .sets)
+ReadsSets text from count r = Section (readLines readSet count (drop from text)) text mostSets zeroSet count (r .done) (r .next) (r .sets)
 
 -- A first section of which all sets were read, and the rest of the text after it.
 abbrev pub setsIn : SetsRead → List BoundSet
@@ -33,7 +34,7 @@ setsIn r = take (r .done) (r .sets)
 pub record SetsHeld (r : SetsRead) : Type 0 where
   pub few : r .done ≤ mostSets
   pub count : length (setsIn r) ≡ r .done
-  pub places-are : r .sets ≡ filled mostSets noSet (setsIn r)
+  pub places-are : r .sets ≡ filled mostSets zeroSet (setsIn r)
 
 abbrev pub readAfter : SetsRead → List ℕ → Got Sheet
 readAfter r text = after (1 + r .done) (readSecond (r .done) (setsIn r) (drop (r .next) text))
@@ -45,4 +46,4 @@ pub record MovesSpan (setCount count : ℕ) : Type 0 where
 
 abbrev pub ReadsMoves : (text : List ℕ) (from setCount count : ℕ) → MovesRead → Type 0
 ReadsMoves text from setCount count r =
-    Section (readLines (readMove setCount) count (drop from text)) text mostMoves noMove count (r .done) (r .next) (r .moves)
+    Section (readLines (readMove setCount) count (drop from text)) text mostMoves zeroMove count (r .done) (r .next) (r .moves)

@@ -1,4 +1,4 @@
--- `main` ends: it answers at most as many requests as it counts down from. Assumes nothing of its own.
+-- `main` ends: it answers at most as many requests as it counts down from.
 use borrow.Author.Needs.{needs}
 use Prim.Native.Nat.{_≤_}
 use Rattle.sheet_vectors.proofs.main.Statement.{statement}

@@ -1,4 +1,4 @@
--- `write_answer` writes what the report counts. Assumes nothing of its own.
+-- `write_answer` writes what the report counts.
 use borrow.Author.Needs.{needs}
 use mathlib.Core.Path.{sym}
 use lib.Seq.{length-take-le}

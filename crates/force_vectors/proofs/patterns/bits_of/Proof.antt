@@ -1,4 +1,4 @@
--- `patterns::bits_of`: what equals itself is no NaN. Assumes nothing.
+-- `patterns::bits_of`: what equals itself is no NaN.
 use borrow.Author.Needs.{needs}
 use mathlib.Core.Path.{_≡_, sym, subst}
 use mathlib.Core.Bool.{true, not}

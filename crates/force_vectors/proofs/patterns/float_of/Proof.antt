@@ -1,4 +1,4 @@
--- `patterns::float_of`: a pattern that without its sign is at most infinity's is no NaN's. Assumes nothing.
+-- `patterns::float_of`: a pattern that without its sign is at most infinity's is no NaN's.
 use borrow.Author.Needs.{needs}
 use Prim.Native.Nat.{_%_}
 use mathlib.Core.Path.{sym, subst, _∙_}

@@ -1,4 +1,4 @@
--- `table::write_places` reads inside its table and ends. Assumes nothing.
+-- `table::write_places` reads inside its table and ends.
 use borrow.Author.Needs.{needs}
 use Prim.Native.Nat.{_≤_}
 use Rattle.force_vectors.proofs.table.write_places.Statement.{statement}

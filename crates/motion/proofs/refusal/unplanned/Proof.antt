@@ -1,4 +1,4 @@
--- `unplanned` meets its contract: its second arm is not reached. Assumes nothing.
+-- `unplanned` meets its contract: its second arm is not reached.
 use mathlib.Core.Path.{sym, ap, subst}
 use Rattle.planner.specs.Answer.{outcome}
 use Rattle.planner.specs.Accepted.{IsPlanned}

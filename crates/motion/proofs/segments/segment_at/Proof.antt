@@ -1,11 +1,10 @@
 -- `segment_at` meets its contract: each arm has the numbers of its segments, and the last has those that are left of sixteen.
--- Assumes nothing.
 use mathlib.Core.Path.{_≡_, sym, subst}
 use mir.Syntax.{w64}
 use mir.Val.{toZ, ofZ}
 use mir.Facts.{toZ-ofZ}
 use Rattle.motion.specs.Inner.SegmentSnaps.{NextSegment}
-use Rattle.motion.proofs.SegmentLaws.{others, with-plus, with-minus, lasting-q, lasting-r, lasting-s, lasting-rest}
+use Rattle.motion.proofs.SegmentLaws.{others, with-plus, with-minus, lasting-q, lasting-r, lasting-s, lasting-more}
 use Rattle.motion.proofs.segments.segment_at.Statement.{statement}
 use Rattle.motion.proofs.segments.segment_at.Tie as tie
 
@@ -19,12 +18,14 @@ down c = toZ-ofZ {w = w64} {z = c .before .before .args .levels .down} (record {
 returns : tie.Need-returns
 returns c =
     let a = c .before .before .args in
-    subst (λ x. NextSegment (a .d) (a .levels) (a .i) (record { samples = a .d .p; snap = x })) (sym (up c)) (with-plus _ _ _ (c .before .match .keys1))
+    subst (λ x. NextSegment (a .d) (a .levels) (a .i) (record { samples = a .d .p; snap = x })) (sym (up c))
+    (with-plus _ _ _ (c .before .match .keys1))
 
 returns-2 : tie.Need-returns-2
 returns-2 c =
     let a = c .before .before .args in
-    subst (λ x. NextSegment (a .d) (a .levels) (a .i) (record { samples = a .d .p; snap = x })) (sym (down c)) (with-minus _ _ _ (c .before .match .keys2))
+    subst (λ x. NextSegment (a .d) (a .levels) (a .i) (record { samples = a .d .p; snap = x })) (sym (down c))
+    (with-minus _ _ _ (c .before .match .keys2))
 
 returns-3 : tie.Need-returns-3
 returns-3 c = lasting-r _ _ _ (c .match .keys3)
@@ -33,7 +34,7 @@ returns-4 : tie.Need-returns-4
 returns-4 c = lasting-s _ _ _ (c .match .keys4)
 
 returns-5 : tie.Need-returns-5
-returns-5 c = lasting-rest _ _ _ (c .match .keys5)
+returns-5 c = lasting-more _ _ _ (c .match .keys5)
 
 returns-6 : tie.Need-returns-6
 returns-6 c =

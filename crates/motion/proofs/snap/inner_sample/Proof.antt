@@ -1,4 +1,4 @@
--- `inner_sample` meets its contract. Assumes nothing.
+-- `inner_sample` meets its contract.
 use mathlib.Core.Path.{_≡_, sym, subst}
 use Prim.Native.Nat.{_-_}
 use mir.Syntax.{w64}
@@ -10,10 +10,16 @@ use Rattle.motion.proofs.snap.inner_sample.Statement.{statement}
 use Rattle.motion.proofs.snap.inner_sample.Tie as tie
 
 -- the levels as they were passed
-up : (c : tie.After-struct-told) → toZ w64 (ofZ w64 (c .before .before .before .before .args .outer .up)) ≡ c .before .before .before .before .args .outer .up
+up :
+    (c : tie.After-struct-told)
+    → let x = c .before .before .before .before .args .outer in
+    toZ w64 (ofZ w64 (x .up)) ≡ x .up
 up c = toZ-ofZ {w = w64} {z = c .before .before .before .before .args .outer .up} (record { sfits = c .struct-told .given .0 .1 })
 
-down : (c : tie.After-struct-told) → toZ w64 (ofZ w64 (c .before .before .before .before .args .outer .down)) ≡ c .before .before .before .before .args .outer .down
+down :
+    (c : tie.After-struct-told)
+    → let x = c .before .before .before .before .args .outer in
+    toZ w64 (ofZ w64 (x .down)) ≡ x .down
 down c = toZ-ofZ {w = w64} {z = c .before .before .before .before .args .outer .down} (record { sfits = c .struct-told .given .1 .0 .1 })
 
 returns : tie.Need-returns
@@ -23,7 +29,8 @@ returns-2 : tie.Need-returns-2
 returns-2 c =
     let a = c .before .before .before .before .args in
     let k = a .outer .sample - a .width in
-    subst (λ x. SameSnap (a .width) (a .outer .up) (a .outer .down) (a .outer .sample) x (toZ w64 (ofZ w64 (a .outer .up))) k) (sym (down c))
+    subst (λ x. SameSnap (a .width) (a .outer .up) (a .outer .down) (a .outer .sample) x (toZ w64 (ofZ w64 (a .outer .up))) k)
+    (sym (down c))
     (subst (λ x. SameSnap (a .width) (a .outer .up) (a .outer .down) (a .outer .sample) (a .outer .down) x k) (sym (up c))
     (past _ _ _ _ (c .before .before .if1 .left)))
 

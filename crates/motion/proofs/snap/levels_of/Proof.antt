@@ -1,4 +1,4 @@
--- `levels_of` meets its contract: D is small enough to be taken either way. Assumes nothing.
+-- `levels_of` meets its contract: D is small enough to be taken either way.
 use borrow.Author.Needs.{needs}
 use mathlib.Core.Path.{_≡_, sym, ap, _∙_}
 use Prim.Native.Nat.{ℕ, _≤_, _^_}

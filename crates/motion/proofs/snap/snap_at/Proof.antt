@@ -1,4 +1,4 @@
--- `snap_at` meets its contract: each step inner-sample keeps the snap. Assumes nothing.
+-- `snap_at` meets its contract: each `inner_sample` keeps the snap.
 use borrow.Author.Needs.{needs}
 use mathlib.Core.List.{List, [], _∷_}
 use mathlib.Core.Path.{_≡_, sym, _∙_}
@@ -29,24 +29,24 @@ down c = toZ-ofZ {w = w64} {z = c .before .args .levels .down} (record { sfits =
 
 first :
     (c : tie.After-inner-sample) (a : ℕ) (ws : List ℕ)
-    → snapBy a (c .before .before .args .plan .e ∷ ws) (c .before .before .args .levels .up) (c .before .before .args .levels .down) (c .before .before .args .k)
+    → let d = c .before .before .args in
+    snapBy a (d .plan .e ∷ ws) (d .levels .up) (d .levels .down) (d .k)
     ≡ snapBy a ws (c .inner-sample .result .up) (c .inner-sample .result .down) (c .inner-sample .result .sample)
 first c a ws = rw (up (c .before), down (c .before)) at (c .inner-sample .ensures .same a ws)
 
 inner :
     (c : tie.After-inner-sample3)
-    → snapBy (c .before .before .before .before .args .plan .a)
-    (c .before .before .before .before .args .plan .e ∷ c .before .before .before .before .args .plan .c ∷ c .before .before .before .before .args .plan .b ∷ [])
-    (c .before .before .before .before .args .levels .up)
-    (c .before .before .before .before .args .levels .down)
-    (c .before .before .before .before .args .k)
-    ≡ snapBy (c .before .before .before .before .args .plan .a) [] (c .inner-sample3 .result .up) (c .inner-sample3 .result .down) (c .inner-sample3 .result .sample)
+    → let d = c .before .before .before .before .args in
+    let x = c .inner-sample3 .result in
+    snapBy (d .plan .a) (d .plan .e ∷ d .plan .c ∷ d .plan .b ∷ []) (d .levels .up) (d .levels .down) (d .k)
+    ≡ snapBy (d .plan .a) [] (x .up) (x .down) (x .sample)
 inner c = first (c .before .before) _ _ ∙ c .before .inner-sample2 .ensures .same _ _ ∙ c .inner-sample3 .ensures .same _ _
 
 returns : tie.Need-returns
 returns c =
     let d = c .before .before .before .before in
-    toZ-ofZ {w = w64} {z = d .inner-sample3 .result .up} (record { sfits = c .struct-told2 .given .0 .1 }) ∙ sym (inner d ∙ inside _ _ _ _ (c .before .if1 .taken))
+    toZ-ofZ {w = w64} {z = d .inner-sample3 .result .up} (record { sfits = c .struct-told2 .given .0 .1 })
+    ∙ sym (inner d ∙ inside _ _ _ _ (c .before .if1 .taken))
 
 returns-2 : tie.Need-returns-2
 returns-2 c = sym (inner (c .before .before .before) ∙ outside _ _ _ _ (c .if1 .left))

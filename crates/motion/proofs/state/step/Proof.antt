@@ -1,4 +1,5 @@
--- `step` meets its contract: each sum is of the values that were passed. Assumes nothing.
+-- `step` meets its contract: each sum is of the values that were passed. The needs would
+-- close without this file; they have names here so that a change of the code is refused by name.
 use borrow.Author.Needs.{needs}
 use Rattle.motion.proofs.state.step.Statement.{statement}
 use Rattle.motion.proofs.state.step.Tie as tie

@@ -1,4 +1,4 @@
--- `sample_in_plan` meets its contract: the levels are those of the direction, so the sums are the profile's values. Assumes nothing.
+-- `sample_in_plan` meets its contract: the levels are those of the direction, so the sums are the profile's values.
 use borrow.Author.Needs.{needs}
 use mathlib.Core.List.{[], _∷_}
 use mathlib.Core.Path.{_≡_, sym, ap, subst, _∙_}
@@ -38,7 +38,8 @@ levels :
 levels c =
     let a = c .before .args in
     let back = toZ-ofZ {w = w64} {z = a .displacement} (c .before .fits .displacement) in
-    directed-snap (c .before .pre .0 .ordered) (subst (λ X. AreLevels X (a .plan .snap) (c .levels-of .result)) back (c .levels-of .ensures))
+    directed-snap (c .before .pre .0 .ordered)
+    (subst (λ X. AreLevels X (a .plan .snap) (c .levels-of .result)) back (c .levels-of .ensures))
 
 sum-to-requires : tie.Need-sum-to-requires
 sum-to-requires c κs =
@@ -64,21 +65,26 @@ state c =
 snap :
     (c : tie.After-snap-at)
     → c .snap-at .result
-    ≡ directedSnap (c .before .before .before .args .displacement) (c .before .before .before .args .plan) (c .before .before .before .args .k)
+    ≡ directedSnap (c .before .before .before .args .displacement) (c .before .before .before .args .plan)
+    (c .before .before .before .args .k)
 snap c = c .snap-at .ensures ∙ ap (λ (f : ℕ → ℤ). f (c .before .before .before .args .k)) (levels (c .before .before))
 
 returns : tie.Need-returns
 returns c =
-    let d = c .before .before .before .before in
+    let b = c .before .before .before in
+    let d = b .before in
     let g = c .struct-told2 .given in
     let x = d .sum-to .result in
+    let n = c .before .nearest-count in
     record {
-      snap-is = toZ-ofZ {w = w64} {z = c .before .before .before .snap-at .result} (record { sfits = c .before .before .before .snap-at .ok }) ∙ snap (c .before .before .before);
+      snap-is = toZ-ofZ {w = w64} {z = b .snap-at .result} (record { sfits = b .snap-at .ok }) ∙ snap b;
       jerk-is = toZ-ofZ {w = w64} {z = x .jerk} (record { sfits = g .1 .0 .1 }) ∙ ap (λ (s : State). s .jerk) (state d);
-      acceleration-is = toZ-ofZ {w = w64} {z = x .acceleration} (record { sfits = g .1 .1 .0 .1 }) ∙ ap (λ (s : State). s .acceleration) (state d);
+      acceleration-is =
+          toZ-ofZ {w = w64} {z = x .acceleration} (record { sfits = g .1 .1 .0 .1 }) ∙ ap (λ (s : State). s .acceleration) (state d);
       velocity-is = toZ-ofZ {w = w64} {z = x .velocity} (record { sfits = g .1 .1 .1 .0 .1 }) ∙ ap (λ (s : State). s .velocity) (state d);
-      position-is = toZ-ofZ {w = w64} {z = x .position} (record { sfits = g .1 .1 .1 .1 .0 .1 }) ∙ ap (λ (s : State). s .position) (state d);
-      count-is = rw (toZ-ofZ {w = w64} {z = c .before .nearest-count .result} (record { sfits = c .before .nearest-count .ok })) (c .before .nearest-count .ensures);
+      position-is =
+          toZ-ofZ {w = w64} {z = x .position} (record { sfits = g .1 .1 .1 .1 .0 .1 }) ∙ ap (λ (s : State). s .position) (state d);
+      count-is = rw (toZ-ofZ {w = w64} {z = n .result} (record { sfits = n .ok })) (n .ensures);
     }
 
 pub sample-in-plan-spec : {M : Type 1} → statement M

@@ -1,4 +1,4 @@
--- `sum_to` meets its contract. The loop's invariant: the state is the one at its sample. Assumes nothing.
+-- `sum_to` meets its contract. The loop's invariant: the state is the one at its sample.
 use mathlib.Core.List.{[], _∷_}
 use mathlib.Core.Path.{_≡_, ap, _∙_}
 use Prim.Native.Nat.{ℕ, _-_, _≤_}

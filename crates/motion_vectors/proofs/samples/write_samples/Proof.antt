@@ -1,4 +1,4 @@
--- `samples::write_samples` ends, and k never wraps. Assumes nothing.
+-- `samples::write_samples` ends, and k never wraps.
 use borrow.Author.Needs.{needs}
 use Prim.Native.Nat.{_<_, _^_}
 use Rattle.motion_vectors.proofs.samples.write_samples.Statement.{statement}

@@ -1,4 +1,4 @@
--- `tables::mark_places` writes inside its table and ends. Assumes nothing.
+-- `tables::mark_places` writes inside its table and ends.
 use borrow.Author.Needs.{needs}
 use mathlib.Core.Path.{_≡_}
 use Prim.Native.Nat.{_-_}

@@ -1,4 +1,4 @@
--- `tables::write_places` reads inside its table and ends. Assumes nothing.
+-- `tables::write_places` reads inside its table and ends.
 use borrow.Author.Needs.{needs}
 use Prim.Native.Nat.{_≤_}
 use Rattle.motion_vectors.proofs.tables.write_places.Statement.{statement}

@@ -1,4 +1,4 @@
--- `magnitude` meets its contract: −1−x of a negative x is one less than its size, so no step leaves its range. Assumes nothing.
+-- `magnitude` meets its contract: −1−x of a negative x is one less than its size, so no step leaves its range.
 use borrow.Author.Needs.{needs, sfits-of}
 use mathlib.Core.Path.{_≡_, sym}
 use mathlib.Core.Bool.{true}
@@ -8,7 +8,7 @@ use mir.Val.{toZ, ofZ}
 use mir.Facts.{toZ-ofZ, fits-natAbs}
 use lib.IntN.{pos, negsuc, _-ℤ_}
 use lib.Signed.{mag, ltZ}
-use Rattle.planner.proofs.Sign.{mirrored, size-negative, not-negative}
+use Rattle.planner.proofs.Sign.{complement, size-negative, not-negative}
 use Rattle.planner.proofs.checks.magnitude.Statement.{statement}
 use Rattle.planner.proofs.checks.magnitude.Tie as tie
 
@@ -17,12 +17,12 @@ negative : (c : tie.Then1) → ltZ (c .before .args .x) (pos 0) ≡ true
 negative c = rw (toZ-ofZ (c .before .fits .x)) at (c .if1 .taken)
 
 sub-result : tie.Need-sub-result
-sub-result c = rw (toZ-ofZ (c .before .fits .x), mirrored (c .before .args .x) (negative c)) (sfits-of (c .before .fits .x .sfits))
+sub-result c = rw (toZ-ofZ (c .before .fits .x), complement (c .before .args .x) (negative c)) (sfits-of (c .before .fits .x .sfits))
 
 -- −1−x as the machine reads it back
 read-back : (c : tie.Then1) → toZ w64 (ofZ w64 (negsuc 0 -ℤ toZ w64 (ofZ w64 (c .before .args .x)))) ≡ pos (mag (c .before .args .x))
 read-back c =
-    rw (toZ-ofZ (c .before .fits .x), mirrored (c .before .args .x) (negative c))
+    rw (toZ-ofZ (c .before .fits .x), complement (c .before .args .x) (negative c))
     (toZ-ofZ {w = w64} {z = pos (mag (c .before .args .x))} (sfits-of (c .before .fits .x .sfits)))
 
 cast-result : tie.Need-cast-result

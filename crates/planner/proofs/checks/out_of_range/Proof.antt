@@ -1,4 +1,4 @@
--- `out_of_range` meets its contract, by its two tests. Assumes nothing.
+-- `out_of_range` meets its contract, by its two tests.
 use borrow.Author.Tests.{ne-eqb}
 use Rattle.planner.proofs.checks.out_of_range.Statement.{statement}
 use Rattle.planner.proofs.checks.out_of_range.Tie as tie

@@ -1,4 +1,4 @@
--- `divide` meets its contract: the remainder is what the quotient leaves. Assumes nothing.
+-- `divide` meets its contract: the remainder is what the quotient leaves.
 use borrow.Author.Needs.{needs}
 use mathlib.Core.Path.{refl}
 use native.Mathlib.Nat.{mod-eq-sub-div-mul}

@@ -1,5 +1,5 @@
 -- `plan_in_range` meets its contract: what `find_intervals` ensures makes the answer the rule's, and the intervals of at most 4,096
--- samples are small enough that no product leaves its range. Assumes nothing.
+-- samples are small enough that no product leaves its range.
 use borrow.Author.Needs.{needs}
 use Prim.Native.Nat.{_≤_}
 use native.Mathlib.Nat.{mul-le-mul, mul-pos}

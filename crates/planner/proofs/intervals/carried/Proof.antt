@@ -1,4 +1,4 @@
--- `carried` meets its contract: the product fits, and is at least 1. Assumes nothing.
+-- `carried` meets its contract: the product fits, and is at least 1.
 use native.Mathlib.Nat.{mul-le-mul, one-le-mul}
 use native.Mathlib.Omega.{arith}
 use Rattle.planner.proofs.intervals.carried.Statement.{statement}

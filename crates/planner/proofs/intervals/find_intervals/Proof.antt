@@ -1,4 +1,4 @@
--- `find_intervals` meets its contract: what its calls ensure, put together by `intervals-agree`. Assumes nothing.
+-- `find_intervals` meets its contract: what its calls ensure, put together by `intervals-agree`.
 use Rattle.planner.proofs.CapLaws.{intervals-agree}
 use borrow.Author.Needs.{needs}
 use Rattle.planner.proofs.intervals.find_intervals.Statement.{statement}

@@ -1,4 +1,4 @@
--- `interval_a` meets its contract: the four searches, from the last to the first. Assumes nothing.
+-- `interval_a` meets its contract: the four searches, from the last to the first.
 use borrow.Author.Needs.{needs}
 use native.Mathlib.Omega.{arith}
 use Rattle.planner.specs.Intervals.{interval-a}

@@ -1,4 +1,4 @@
--- `interval_b` meets its contract: the three searches, from the last to the first, none below a. Assumes nothing.
+-- `interval_b` meets its contract: the three searches, from the last to the first, none below a.
 use borrow.Author.Needs.{needs}
 use native.Mathlib.Omega.{arith}
 use Rattle.planner.specs.Intervals.{interval-b}

@@ -1,4 +1,4 @@
--- `interval_c` meets its contract: the two searches, from the last to the first, none below a+b. Assumes nothing.
+-- `interval_c` meets its contract: the two searches, from the last to the first, none below a+b.
 use borrow.Author.Needs.{needs}
 use native.Mathlib.Omega.{arith}
 use Rattle.planner.specs.Intervals.{interval-c}

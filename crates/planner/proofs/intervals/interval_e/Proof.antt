@@ -1,4 +1,4 @@
--- `interval_e` meets its contract: one search, not below a+b+c. Assumes nothing.
+-- `interval_e` meets its contract: one search, not below a+b+c.
 use borrow.Author.Needs.{needs}
 use native.Mathlib.Omega.{arith}
 use Rattle.planner.specs.Intervals.{interval-e}

@@ -1,4 +1,4 @@
--- The proof of the cycle of calls {search}. The measure is the span from lo to hi. Assumes nothing.
+-- The proof of the cycle of calls {search}. The measure is the span from lo to hi.
 use Prim.Native.Nat.{ℕ, _+_, _-_, _*_, _/_, _^_, _<_, _≤_}
 use native.Mathlib.Nat.{mul-le-mul}
 use native.Mathlib.Omega.{arith}
@@ -32,9 +32,6 @@ claims t = (power-reads.Asked, power-reads.Learnt, search-below t, search′.Pos
 search-returns : (t : ℕ) → search-lts.Need-returns (claims t) (search-at t) search′.Post
 search-returns t c = within-one _ (c .before .args .lo) (c .before .args .hi) (c .if1 .taken)
 
-search-sub-mid : (t : ℕ) → search-lts.Need-sub-mid (claims t) (search-at t) search′.Post
-search-sub-mid t c = omega arith
-
 search-add-mid : (t : ℕ) → search-lts.Need-add-mid (claims t) (search-at t) search′.Post
 search-add-mid t c = omega arith
 
@@ -47,17 +44,17 @@ search-power-requires t c κs = omega arith
 search-mul-reached : (t : ℕ) → search-lts.Need-mul-reached (claims t) (search-at t) search′.Post
 search-mul-reached t c =
     let a = c .before .before .args in
-    let mid : ℕ = a .lo + (a .hi - a .lo) / 2 in
+    let mid : ℕ = (a .lo + a .hi) / 2 in
     let small : mid ≤ 16388 = omega arith in
     let bound : (a .u + mid) ^ a .d ≤ 2 ^ 45 = pow-bound (omega arith) (omega arith) in
     let product : mid * (c .power .result) ≤ 16388 * 2 ^ 45 = rw (c .power .ensures) (mul-le-mul small bound) in
     omega (arith, product)
 
-search-search-requires : (t : ℕ) → search-lts.Need-search-requires (claims t) (search-at t) search′.Post
-search-search-requires t c κs = omega arith
-
 search-add-search : (t : ℕ) → search-lts.Need-add-search (claims t) (search-at t) search′.Post
 search-add-search t c = omega arith
+
+search-search-requires : (t : ℕ) → search-lts.Need-search-requires (claims t) (search-at t) search′.Post
+search-search-requires t c κs = omega arith
 
 search-search-requires-2 : (t : ℕ) → search-lts.Need-search-requires-2 (claims t) (search-at t) search′.Post
 search-search-requires-2 t c κs = omega arith
@@ -65,29 +62,28 @@ search-search-requires-2 t c κs = omega arith
 search-returns-2 : (t : ℕ) → search-lts.Need-returns-2 (claims t) (search-at t) search′.Post
 search-returns-2 t c =
     let a = c .before .before .before .before .args in
-    let mid : ℕ = a .lo + (a .hi - a .lo) / 2 in
-    within-left _ (a .lo) mid (a .hi) (c .search .result) (omega arith)
-    (le-leb (a .t) (growth (a .u) (a .d) mid) (rw (c .before .before .power .ensures) at (c .before .if2 .taken)))
+    let mid : ℕ = (a .lo + a .hi) / 2 in
+    within-right _ (a .lo) mid (a .hi) (c .search .result) (growth-rising (a .u) (a .d) (a .t)) (omega arith)
+    (lt-leb (a .t) (growth (a .u) (a .d) mid) (rw (c .before .before .power .ensures) at (c .before .if2 .taken)))
     (c .search .ensures)
 
 search-returns-3 : (t : ℕ) → search-lts.Need-returns-3 (claims t) (search-at t) search′.Post
 search-returns-3 t c =
     let a = c .before .before .before .before .args in
-    let mid : ℕ = a .lo + (a .hi - a .lo) / 2 in
-    within-right _ (a .lo) mid (a .hi) (c .search2 .result) (growth-rising (a .u) (a .d) (a .t)) (omega arith)
-    (lt-leb (a .t) (growth (a .u) (a .d) mid) (rw (c .before .before .power .ensures) at (c .before .if2 .left)))
+    let mid : ℕ = (a .lo + a .hi) / 2 in
+    within-left _ (a .lo) mid (a .hi) (c .search2 .result) (omega arith)
+    (le-leb (a .t) (growth (a .u) (a .d) mid) (rw (c .before .before .power .ensures) at (c .before .if2 .left)))
     (c .search2 .ensures)
 
 pub +search-spec : {M : Type 1} → statement M
 +search-spec = close μ-search λ t. search-lts.spec (claims t) (search-at t) search′.Post
     (search-returns t)
-    (search-sub-mid t)
     (search-add-mid t)
     (search-add-power t)
     (search-power-requires t)
     (search-mul-reached t)
-    (search-search-requires t)
     (search-add-search t)
+    (search-search-requires t)
     (search-search-requires-2 t)
     (search-returns-2 t)
     (search-returns-3 t)

@@ -1,4 +1,4 @@
--- `least_interval` meets its contract: a search for the quotient finds the least number for the bound. Assumes nothing.
+-- `least_interval` meets its contract: a search for the quotient finds the least number for the bound.
 use Rattle.planner.proofs.ReachLaws.{least-between}
 use borrow.Author.Needs.{needs}
 use Rattle.planner.proofs.search.least_interval.Statement.{statement}

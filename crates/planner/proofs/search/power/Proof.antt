@@ -1,4 +1,4 @@
--- `search::power` meets its contract: each arm is the power of its exponent, and none passes 2^45. Assumes nothing.
+-- `search::power` meets its contract: each arm is the power of its exponent, and none passes 2^45.
 use native.Mathlib.Nat.{mul-le-mul, pow-zero}
 use native.Mathlib.Omega.{arith}
 use mathlib.Core.Path.{sym, _≡_}

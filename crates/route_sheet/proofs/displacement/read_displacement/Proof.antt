@@ -1,4 +1,4 @@
--- `displacement::read_displacement` meets its contract: the first byte decides. Assumes nothing.
+-- `read_displacement` meets its contract: the first byte decides.
 use borrow.Author.Needs.{needs}
 use mathlib.Core.Path.{sym, _∙_}
 use lib.ListN.{drop-of-length-le}

@@ -1,6 +1,7 @@
--- `displacement::read_size` meets its contract: the size that is read, with its sign. Assumes nothing.
+-- `read_size` meets its contract: the size that is read, with its sign.
 use borrow.Author.Needs.{needs}
 use mir.Facts.{toZ-ofZ}
+use mir.Syntax.{w64}
 use Rattle.route_sheet.specs.Reading.{after, thenRead}
 use Rattle.route_sheet.specs.Inner.Parts.{numberRead}
 use Rattle.route_sheet.proofs.PartLaws.{as-read, number-most}
@@ -32,7 +33,7 @@ returns-2 c =
     let read = c .before .before .before .before .read-number in
     rw (
       as-read (numberRead text) (read .ensures .read-is) (c .before .before .size .given .1),
-      toZ-ofZ (record { sfits = c .with-sign .ok }),
+      toZ-ofZ {w = w64} {z = c .with-sign .result} (record { sfits = c .with-sign .ok }),
       c .with-sign .ensures,
     )
 

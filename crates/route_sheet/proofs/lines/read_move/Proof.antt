@@ -1,4 +1,4 @@
--- `lines::read_move` meets its contract: X and the set number. Assumes nothing.
+-- `read_move` meets its contract: X and the set number.
 use borrow.Author.Needs.{needs, sfits-of}
 use mathlib.Core.List.{List}
 use mathlib.Core.Path.{_≡_}
@@ -62,7 +62,7 @@ returns-3 c =
     let d = c .before .before .before .before in
     let told : SFits w64 (d .before .x .given .0 .0) = sfits-of (d .known-told .given .0 .1) in
     let set = as-read (numberRead (textOf d)) (c .before .before .before .read-number .ensures .read-is) (c .before .n .given .1) in
-    rw (first d, set, toZ-ofZ told)
+    rw (first d, set, toZ-ofZ {w = w64} {z = d .before .x .given .0 .0} told)
 
 pub read-move-spec : {M : Type 1} → statement M
 read-move-spec =

@@ -1,4 +1,4 @@
--- `lines::read_set` meets its contract: four numbers, one after the other. Assumes nothing.
+-- `read_set` meets its contract: four numbers, one after the other.
 use borrow.Author.Needs.{needs}
 use mathlib.Core.List.{List}
 use mathlib.Core.Path.{_≡_}
@@ -81,7 +81,8 @@ returns-3 : tie.Need-returns-3
 unfolding readSet thenRead after
 returns-3 c =
     let d = c .before .before .before in
-    rw (first (before-a d), second d, as-read (numberRead (textOf (before-a d))) (c .before .before .read-number3 .ensures .read-is) (c .enum-told3 .given .1))
+    let none = as-read (numberRead (textOf (before-a d))) (c .before .before .read-number3 .ensures .read-is) (c .enum-told3 .given .1) in
+    rw (first (before-a d), second d, none)
 
 abbrev before-j : tie.After-known-told3 → tie.After-known-told2
 before-j c = c .before .before .before .before
@@ -89,9 +90,11 @@ before-j c = c .before .before .before .before
 third :
     (c : tie.After-known-told3) →
     let text = textOf (before-a (before-j c)) in
-    readNumber 0 mostNumber space (drop (afterA (before-j c)) text) ≡ got (c .before .j .given .0 .0) (drop (c .before .j .given .0 .1 .0) text)
+    readNumber 0 mostNumber space (drop (afterA (before-j c)) text)
+    ≡ got (c .before .j .given .0 .0) (drop (c .before .j .given .0 .1 .0) text)
 third c =
-    as-read (numberRead (textOf (before-a (before-j c)))) (c .before .before .before .read-number3 .ensures .read-is) (c .before .j .given .1)
+    let text = textOf (before-a (before-j c)) in
+    as-read (numberRead text) (c .before .before .before .read-number3 .ensures .read-is) (c .before .j .given .1)
 
 read-number-requires-4 : tie.Need-read-number-requires-4
 read-number-requires-4 c κs = search needs
@@ -106,7 +109,9 @@ returns-4 : tie.Need-returns-4
 unfolding readSet thenRead after
 returns-4 c =
     let d = c .before .before .before in
-    rw (first (before-a (before-j d)), second (before-j d), third d, as-read (numberRead (textOf (before-a (before-j d)))) (c .before .before .read-number4 .ensures .read-is) (c .enum-told4 .given .1))
+    let text = textOf (before-a (before-j d)) in
+    let none = as-read (numberRead text) (c .before .before .read-number4 .ensures .read-is) (c .enum-told4 .given .1) in
+    rw (first (before-a (before-j d)), second (before-j d), third d, none)
 
 returns-5 : tie.Need-returns-5
 unfolding readSet thenRead after

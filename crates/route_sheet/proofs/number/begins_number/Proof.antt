@@ -1,4 +1,4 @@
--- `number::begins_number` meets its contract. Assumes nothing.
+-- `begins_number` meets its contract.
 use borrow.Author.Needs.{needs}
 use borrow.Author.Tests.{not-true, not-false}
 use mathlib.Core.Bool.{true, false}

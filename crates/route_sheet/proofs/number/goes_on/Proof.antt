@@ -1,4 +1,4 @@
--- `number::goes_on` meets its contract: each test that fails is a fact that a digit going on would break. Assumes nothing.
+-- `goes_on` meets its contract: each test that fails is a fact that a digit going on would break.
 use borrow.Author.Needs.{needs}
 use borrow.Author.Tests.{not-true, not-false, leb-true, leb-false, le-leb, lt-leb, lt-ltb}
 use mathlib.Core.Bool.{Bool, true, false}

@@ -1,5 +1,5 @@
--- `number::read_digits` meets its contract. The loop's invariant: what is read of the text from the first digit on is what is read from
--- here on with the number so far, which is at most `most`. Assumes nothing.
+-- `read_digits` meets its contract. The loop's invariant: what is read of the text from the first digit on is what is read from
+-- here on with the number so far, which is at most `most`.
 use borrow.Author.Needs.{needs}
 use borrow.Author.Tests.{not-true, not-false}
 use mathlib.Core.Path.{_≡_, refl, sym, _∙_}
@@ -55,12 +55,14 @@ returns-2 c =
 
 -- The byte that is read, and that it goes on.
 byte : tie.Else2 Inv-loop μ-loop → ℕ
-byte c = getD (c .before .before .before .before .before .before .before .args .text .now) (c .before .before .before .before .before .loop .i) 0
+byte c =
+    let d = c .before .before .before .before .before in
+    getD (d .before .before .args .text .now) (d .loop .i) 0
 
 on :
     (c : tie.Else2 Inv-loop μ-loop) →
-    Passes (byte c) 1 (c .before .before .before .before .before .loop .n) (withDigit (c .before .before .before .before .before .loop .n) (byte c))
-    (c .before .before .before .before .before .before .before .args .most)
+    let d = c .before .before .before .before .before in
+    Passes (byte c) 1 (d .loop .n) (withDigit (d .loop .n) (byte c)) (d .before .before .args .most)
 unfolding byte
 on c =
     passes _ _ _ _ _ (sym (c .before .goes-on .ensures) ∙ not-false (c .before .goes-on .result) (c .if2 .left))

@@ -1,4 +1,4 @@
--- `number::read_number` meets its contract: the first byte decides, and `read_digits` reads on. Assumes nothing.
+-- `read_number` meets its contract: the first byte decides, and `read_digits` reads on.
 use borrow.Author.Needs.{needs}
 use borrow.Author.Tests.{not-true, not-false}
 use mathlib.Core.Path.{sym, _∙_}
@@ -63,7 +63,9 @@ returns-3 c =
     let args = d .before .before .before .before .before .args in
     let here = byte-at (args .text .now) (args .from) (d .before .before .before .if1 .left) in
     record {
-      read-is = rw (here, number-start (args .least) (args .most) (args .end) _ _ (begun d)) (rw (c .before .wide .ensures) at (c .read-digits .ensures .read-is));
+      read-is =
+          rw (here, number-start (args .least) (args .most) (args .end) _ _ (begun d))
+          (rw (c .before .wide .ensures) at (c .read-digits .ensures .read-is));
       at-most = c .read-digits .ensures .at-most;
     }
 

@@ -1,4 +1,4 @@
--- The proof of the cycle of calls {put_number}. The measure is the number. Assumes nothing.
+-- The proof of the cycle of calls {put_number}. The measure is the number.
 use Prim.Native.Nat.{ℕ, _+_, _/_, _%_, _≤_, _<_}
 use native.Mathlib.Omega.{arith}
 use borrow.Fn.Kinds.{In}
@@ -52,7 +52,9 @@ put-number-returns t c =
     rw (decimal-digit (args .n) (c .if1 .taken)) (put-byte (put-none (args .out .now) (args .at)) (digit (args .n)))
 
 put-number-put-number-requires : (t : ℕ) → put-number-lts.Need-put-number-requires (claims t) (put-number-at t) put-number.Post
-put-number-put-number-requires t c κs = omega (arith, room (c .before .before .args .at) (c .before .before .args .n) (c .before .if1 .left) (c .before .before .pre .1))
+put-number-put-number-requires t c κs =
+    let start = c .before .before in
+    omega (arith, room (start .args .at) (start .args .n) (c .before .if1 .left) (start .pre .1))
 
 put-number-cast-out-2 : (t : ℕ) → put-number-lts.Need-cast-out-2 (claims t) (put-number-at t) put-number.Post
 put-number-cast-out-2 t c = omega arith

@@ -1,24 +1,23 @@
--- `output::put_last_field` meets its contract. Assumes nothing.
+-- `put_last_field` meets its contract.
 use borrow.Author.Needs.{needs}
 use mathlib.Core.List.{_++_}
 use Rattle.route_sheet.specs.Decimal.{decimal}
 use Rattle.route_sheet.specs.Report.{endOfLine}
-use Rattle.route_sheet.proofs.OutputLaws.{put-more, room-first, room-next}
+use Rattle.route_sheet.proofs.OutputLaws.{put-more, SplitRoom, split-room}
 use Rattle.route_sheet.proofs.output.put_last_field.Statement.{statement}
 use Rattle.route_sheet.proofs.output.put_last_field.Tie as tie
 
+room : (c : tie.Start) → SplitRoom (c .args .at) (c .args .word .now ++ decimal (c .args .n)) endOfLine
+room c = split-room _ _ _ (c .pre)
+
 put-field-requires : tie.Need-put-field-requires
-put-field-requires c κs =
-    let start = c .before .before in
-    room-first (start .args .at) (start .args .word .now ++ decimal (start .args .n)) endOfLine (start .pre)
+put-field-requires c κs = room (c .before .before) .for-first
 
 slice-aggregate-put-text : tie.Need-slice-aggregate-put-text
 slice-aggregate-put-text c = search needs
 
 put-text-requires : tie.Need-put-text-requires
-put-text-requires c κs =
-    let start = c .before .before .before .before .before in
-    room-next (start .args .word .now ++ decimal (start .args .n)) endOfLine (c .before .before .put-field .ensures) (start .pre)
+put-text-requires c κs = room (c .before .before .before .before .before) .left-after (c .before .before .put-field .ensures)
 
 returns : tie.Need-returns
 returns c = put-more (c .before .before .before .put-field .ensures) (c .put-text .ensures)

@@ -1,4 +1,4 @@
--- `output::put_text` meets its contract. The loop's invariant: as many bytes as were passed are put. Assumes nothing.
+-- `put_text` meets its contract. The loop's invariant: as many bytes as were passed are put.
 use borrow.Author.Needs.{needs}
 use mathlib.Core.Path.{refl}
 use Prim.Native.Nat.{_+_, _-_, _≤_}

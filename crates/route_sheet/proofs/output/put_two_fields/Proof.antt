@@ -1,23 +1,21 @@
--- `output::put_two_fields` meets its contract. Assumes nothing.
+-- `put_two_fields` meets its contract.
 use mathlib.Core.List.{_++_}
 use Rattle.route_sheet.specs.Decimal.{decimal}
 use Rattle.route_sheet.specs.Report.{endOfLine}
-use Rattle.route_sheet.proofs.OutputLaws.{put-more, room-first, room-next}
+use Rattle.route_sheet.proofs.OutputLaws.{put-more, SplitRoom, split-room}
 use Rattle.route_sheet.proofs.output.put_two_fields.Statement.{statement}
 use Rattle.route_sheet.proofs.output.put_two_fields.Tie as tie
 
+room :
+    (c : tie.Start) →
+    SplitRoom (c .args .at) (c .args .first .now ++ decimal (c .args .m)) ((c .args .second .now ++ decimal (c .args .n)) ++ endOfLine)
+room c = split-room _ _ _ (c .pre)
+
 put-field-requires : tie.Need-put-field-requires
-put-field-requires c κs =
-    let start = c .before .before .before in
-    let args = start .args in
-    room-first (args .at) (args .first .now ++ decimal (args .m)) ((args .second .now ++ decimal (args .n)) ++ endOfLine) (start .pre)
+put-field-requires c κs = room (c .before .before .before) .for-first
 
 put-last-field-requires : tie.Need-put-last-field-requires
-put-last-field-requires c κs =
-    let start = c .before .before .before .before .before in
-    let args = start .args in
-    room-next (args .first .now ++ decimal (args .m)) ((args .second .now ++ decimal (args .n)) ++ endOfLine) (c .before .put-field .ensures)
-    (start .pre)
+put-last-field-requires c κs = room (c .before .before .before .before .before) .left-after (c .before .put-field .ensures)
 
 returns : tie.Need-returns
 returns c = put-more (c .before .before .put-field .ensures) (c .put-last-field .ensures)

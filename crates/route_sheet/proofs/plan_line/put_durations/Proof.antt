@@ -1,27 +1,28 @@
--- `plan_line::put_durations` meets its contract: five fields, one after the other. Assumes nothing.
+-- `put_durations` meets its contract: five fields, one after the other.
 use borrow.Author.Needs.{needs}
 use mathlib.Core.List.{List, _++_}
 use Prim.Native.Nat.{ℕ}
 use Rattle.planner.specs.Durations.{p, q, r, s, N}
 use Rattle.route_sheet.specs.Report.{field}
-use Rattle.route_sheet.specs.Inner.Output.{Room}
-use Rattle.route_sheet.proofs.OutputLaws.{put-more, room-first, room-next}
+use Rattle.route_sheet.proofs.OutputLaws.{put-more, SplitRoom, split-room}
 use Rattle.route_sheet.proofs.plan_line.put_durations.Statement.{statement}
 use Rattle.route_sheet.proofs.plan_line.put_durations.Tie as tie
 
--- What is put after n, p, q and r.
-module _ (a b c e : ℕ) where
-  abbrev after-r : List ℕ
-  after-r = field " s " (s a b c e)
+-- `durationsText` is these five, one after the other.
+abbrev fieldN : tie.Start → List ℕ
+fieldN c = field " n " (N (c .args .a) (c .args .b) (c .args .c) (c .args .e))
 
-  abbrev after-q : List ℕ
-  after-q = field " r " (r a b c) ++ after-r
+abbrev fieldP : tie.Start → List ℕ
+fieldP c = field " p " (p (c .args .a))
 
-  abbrev after-p : List ℕ
-  after-p = field " q " (q a b) ++ after-q
+abbrev fieldQ : tie.Start → List ℕ
+fieldQ c = field " q " (q (c .args .a) (c .args .b))
 
-  abbrev after-n : List ℕ
-  after-n = field " p " (p a) ++ after-p
+abbrev fieldR : tie.Start → List ℕ
+fieldR c = field " r " (r (c .args .a) (c .args .b) (c .args .c))
+
+abbrev fieldS : tie.Start → List ℕ
+fieldS c = field " s " (s (c .args .a) (c .args .b) (c .args .c) (c .args .e))
 
 slice-aggregate-put-field : tie.Need-slice-aggregate-put-field
 slice-aggregate-put-field c = search needs
@@ -35,38 +36,29 @@ add-put-field-2 c = search needs
 add-put-field-3 : tie.Need-add-put-field-3
 add-put-field-3 c = search needs
 
+room-n : (c : tie.Start) → SplitRoom (c .args .at) (fieldN c) (fieldP c ++ (fieldQ c ++ (fieldR c ++ fieldS c)))
+room-n c = split-room _ _ _ (c .pre .room)
+
 put-field-requires : tie.Need-put-field-requires
 unfolding field
-put-field-requires c κs =
-    let x = c .before .before .args in
-    room-first (x .at) (field " n " (N (x .a) (x .b) (x .c) (x .e))) (after-n (x .a) (x .b) (x .c) (x .e)) (c .before .before .pre .room)
-
-room-n :
-    (c : tie.After-put-field) →
-    let x = c .before .before .before .args in
-    Room (c .put-field .result) (after-n (x .a) (x .b) (x .c) (x .e))
-unfolding field
-room-n c =
-    let x = c .before .before .before .args in
-    room-next (field " n " (N (x .a) (x .b) (x .c) (x .e))) (after-n (x .a) (x .b) (x .c) (x .e)) (c .put-field .ensures) (c .before .before .before .pre .room)
+put-field-requires c κs = room-n (c .before .before) .for-first
 
 slice-aggregate-put-field-2 : tie.Need-slice-aggregate-put-field-2
 slice-aggregate-put-field-2 c = search needs
 
-put-field-requires-2 : tie.Need-put-field-requires-2
-unfolding field
-put-field-requires-2 c κs =
-    let x = c .before .before .before .before .before .args in
-    room-first (c .before .before .put-field .result) (field " p " (p (x .a))) (after-p (x .a) (x .b) (x .c) (x .e)) (room-n (c .before .before))
+-- What came in, seen from where p is put; and so for q and r.
+abbrev start-p : tie.After-put-field → tie.Start
+start-p c = c .before .before .before
 
 room-p :
-    (c : tie.After-put-field2) →
-    let x = c .before .before .before .before .before .before .args in
-    Room (c .put-field2 .result) (after-p (x .a) (x .b) (x .c) (x .e))
+    (c : tie.After-put-field) →
+    SplitRoom (c .put-field .result) (fieldP (start-p c)) (fieldQ (start-p c) ++ (fieldR (start-p c) ++ fieldS (start-p c)))
 unfolding field
-room-p c =
-    let x = c .before .before .before .before .before .before .args in
-    room-next (field " p " (p (x .a))) (after-p (x .a) (x .b) (x .c) (x .e)) (c .put-field2 .ensures) (room-n (c .before .before .before))
+room-p c = split-room _ _ _ (room-n (start-p c) .left-after (c .put-field .ensures))
+
+put-field-requires-2 : tie.Need-put-field-requires-2
+unfolding field
+put-field-requires-2 c κs = room-p (c .before .before) .for-first
 
 slice-aggregate-put-field-3 : tie.Need-slice-aggregate-put-field-3
 slice-aggregate-put-field-3 c = search needs
@@ -74,20 +66,16 @@ slice-aggregate-put-field-3 c = search needs
 sub-put-field : tie.Need-sub-put-field
 sub-put-field c = search needs
 
+abbrev start-q : tie.After-put-field2 → tie.Start
+start-q c = start-p (c .before .before .before)
+
+room-q : (c : tie.After-put-field2) → SplitRoom (c .put-field2 .result) (fieldQ (start-q c)) (fieldR (start-q c) ++ fieldS (start-q c))
+unfolding field
+room-q c = split-room _ _ _ (room-p (c .before .before .before) .left-after (c .put-field2 .ensures))
+
 put-field-requires-3 : tie.Need-put-field-requires-3
 unfolding field
-put-field-requires-3 c κs =
-    let x = c .before .before .before .before .before .before .before .before .args in
-    room-first (c .before .before .put-field2 .result) (field " q " (q (x .a) (x .b))) (after-q (x .a) (x .b) (x .c) (x .e)) (room-p (c .before .before))
-
-room-q :
-    (c : tie.After-put-field3) →
-    let x = c .before .before .before .before .before .before .before .before .before .args in
-    Room (c .put-field3 .result) (after-q (x .a) (x .b) (x .c) (x .e))
-unfolding field
-room-q c =
-    let x = c .before .before .before .before .before .before .before .before .before .args in
-    room-next (field " q " (q (x .a) (x .b))) (after-q (x .a) (x .b) (x .c) (x .e)) (c .put-field3 .ensures) (room-p (c .before .before .before))
+put-field-requires-3 c κs = room-q (c .before .before) .for-first
 
 slice-aggregate-put-field-4 : tie.Need-slice-aggregate-put-field-4
 slice-aggregate-put-field-4 c = search needs
@@ -98,20 +86,16 @@ sub-put-field-2 c = search needs
 sub-put-field-3 : tie.Need-sub-put-field-3
 sub-put-field-3 c = search needs
 
+abbrev start-r : tie.After-put-field3 → tie.Start
+start-r c = start-q (c .before .before .before)
+
+room-r : (c : tie.After-put-field3) → SplitRoom (c .put-field3 .result) (fieldR (start-r c)) (fieldS (start-r c))
+unfolding field
+room-r c = split-room _ _ _ (room-q (c .before .before .before) .left-after (c .put-field3 .ensures))
+
 put-field-requires-4 : tie.Need-put-field-requires-4
 unfolding field
-put-field-requires-4 c κs =
-    let x = c .before .before .before .before .before .before .before .before .before .before .before .args in
-    room-first (c .before .before .put-field3 .result) (field " r " (r (x .a) (x .b) (x .c))) (after-r (x .a) (x .b) (x .c) (x .e)) (room-q (c .before .before))
-
-room-r :
-    (c : tie.After-put-field4) →
-    let x = c .before .before .before .before .before .before .before .before .before .before .before .before .args in
-    Room (c .put-field4 .result) (after-r (x .a) (x .b) (x .c) (x .e))
-unfolding field
-room-r c =
-    let x = c .before .before .before .before .before .before .before .before .before .before .before .before .args in
-    room-next (field " r " (r (x .a) (x .b) (x .c))) (after-r (x .a) (x .b) (x .c) (x .e)) (c .put-field4 .ensures) (room-q (c .before .before .before))
+put-field-requires-4 c κs = room-r (c .before .before) .for-first
 
 slice-aggregate-put-field-5 : tie.Need-slice-aggregate-put-field-5
 slice-aggregate-put-field-5 c = search needs
@@ -127,7 +111,7 @@ sub-put-field-6 c = search needs
 
 put-field-requires-5 : tie.Need-put-field-requires-5
 unfolding field
-put-field-requires-5 c κs = room-r (c .before .before)
+put-field-requires-5 c κs = room-r (c .before .before .before .before .before) .left-after (c .before .before .put-field4 .ensures)
 
 returns : tie.Need-returns
 unfolding field

@@ -1,4 +1,4 @@
--- `plan_line::put_move` meets its contract: the planner's outcome, as its line. Assumes nothing.
+-- `put_move` meets its contract: the planner's outcome, as its line.
 use borrow.Author.Needs.{needs}
 use mathlib.Core.Path.{_≡_}
 use mir.Syntax.{w64}
@@ -47,13 +47,15 @@ put-two-fields-requires c κs =
     let d = e .before .before in
     let start = d .before .before in
     rw (c .refusal-number .ensures)
-    (refusal-room (d .plan-move .ensures) (start .args .number) (start .args .at) (start .pre) (e .answer2 .given .0 .0) (e .answer2 .given .1))
+    (refusal-room (d .plan-move .ensures) (start .args .number) (start .args .at) (start .pre) (e .answer2 .given .0 .0)
+    (e .answer2 .given .1))
 
 returns : tie.Need-returns
 returns c =
     let e = c .before .before .before in
     let d = e .before .before in
-    rw (back (d .before), outcome-of (d .plan-move .ensures) (Planned (e .answer .given .0 .0)) (e .answer .given .1)) at (c .put-plan .ensures)
+    let is = outcome-of (d .plan-move .ensures) (Planned (e .answer .given .0 .0)) (e .answer .given .1) in
+    rw (back (d .before), is) at (c .put-plan .ensures)
 
 returns-2 : tie.Need-returns-2
 unfolding moveReport field
@@ -61,7 +63,8 @@ returns-2 c =
     let e = c .before .before .before .before .before .before in
     let d = e .before .before in
     let start = d .before .before in
-    let is = refusal-is (d .plan-move .ensures) (start .args .number) (start .args .at) (start .pre) (e .answer2 .given .0 .0) (e .answer2 .given .1) in
+    let refusal = e .answer2 .given in
+    let is = refusal-is (d .plan-move .ensures) (start .args .number) (start .args .at) (start .pre) (refusal .0 .0) (refusal .1) in
     rw (← is) (rw (c .before .refusal-number .ensures) at (c .put-two-fields .ensures))
 
 pub put-move-spec : {M : Type 1} → statement M

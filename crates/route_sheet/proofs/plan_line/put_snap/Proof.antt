@@ -1,4 +1,4 @@
--- `plan_line::put_snap` meets its contract. Assumes nothing.
+-- `put_snap` meets its contract.
 use borrow.Author.Needs.{needs}
 use mathlib.Core.Bool.{true, false}
 use mathlib.Core.List.{_∷_}

@@ -1,4 +1,4 @@
--- `refusal_line::put_sheet_refusal` meets its contract. Assumes nothing.
+-- `put_sheet_refusal` meets its contract.
 use borrow.Author.Needs.{needs}
 use mathlib.Core.Path.{_≡_, ap, _∙_}
 use Rattle.route_sheet.specs.Answer.{number}

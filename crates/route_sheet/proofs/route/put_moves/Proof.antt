@@ -1,4 +1,4 @@
--- `route::put_moves` meets its contract. The loop's invariant is `LinesPut`. Assumes nothing.
+-- `put_moves` meets its contract. The loop's invariant is `LinesPut`.
 use borrow.Author.Needs.{sfits-of}
 use mir.Syntax.{w64}
 use mir.Val.{SFits}
@@ -8,7 +8,7 @@ use Prim.Native.Nat.{_-_, _≤_}
 use native.Mathlib.Omega.{arith}
 use lib.ListN.{getD}
 use Rattle.route_sheet.specs.Sheet.{Within, mostSets}
-use Rattle.route_sheet.specs.Answer.{noMove}
+use Rattle.route_sheet.specs.Answer.{zeroMove}
 use Rattle.route_sheet.specs.Report.{outcomeIn}
 use Rattle.route_sheet.proofs.RouteRuns.{LinesPut, no-line, line-room, next-line, set-number}
 use Rattle.route_sheet.proofs.route.put_moves.Statement.{statement}
@@ -31,7 +31,7 @@ element-copy-out-route c = omega (arith, c .before .before .pre .count-most)
 
 -- The set that the move names has a place.
 named :
-    (c : tie.In-loop Inv-loop μ-loop) → Within 1 mostSets (getD (c .before .before .args .t2 .moves) (c .before .loop .i) noMove .set)
+    (c : tie.In-loop Inv-loop μ-loop) → Within 1 mostSets (getD (c .before .before .args .t2 .moves) (c .before .loop .i) zeroMove .set)
 named c =
     let start = c .before .before in
     set-number (start .args .t2 .moves) (start .args .count) (c .before .loop .i) (start .pre) (c .loop-test .taken)
@@ -52,7 +52,7 @@ put-move-requires : tie.Need-put-move-requires Inv-loop μ-loop
 put-move-requires c κs =
     let start = c .before .before .before .before .before .before .before in
     let loop = c .before .before .before .before .before .before .loop in
-    line-room (start .args .out .now) (start .args .t2 .sets) (start .args .t2 .moves) (loop .i) (loop .at) (loop .out) (loop .inv .0)
+    line-room (loop .inv .0)
     (omega (arith, c .before .before .before .before .before .loop-test .taken, start .pre .count-most))
 
 loop-less : tie.Need-loop-less Inv-loop μ-loop
@@ -64,9 +64,11 @@ loop-again c =
     let start = c .before .before .before .before .before .before .before .before in
     let loop = c .before .before .before .before .before .before .before .loop in
     let more = c .before .before .before .before .before .before .loop-test .taken in
-    let told : SFits w64 (getD (start .args .t2 .moves) (loop .i) noMove .displacement) = sfits-of (c .before .before .struct-told .given .0 .1) in (
-      next-line (start .args .out .now) (start .args .t2 .sets) (start .args .t2 .moves) (loop .i) (loop .at) (loop .out) (loop .inv .0)
-          (c .put-move .result) (c .put-move .last .0) (omega (arith, more, start .pre .count-places)) (omega (arith, more, start .pre .count-most))
+    let told : SFits w64 (getD (start .args .t2 .moves) (loop .i) zeroMove .displacement) =
+    sfits-of (c .before .before .struct-told .given .0 .1) in (
+      next-line (loop .inv .0) (c .put-move .result) (c .put-move .last .0)
+          (omega (arith, more, start .pre .count-places))
+          (omega (arith, more, start .pre .count-most))
           (rw (toZ-ofZ told) at (c .put-move .ensures)),
       omega (arith, more),
     )

@@ -1,10 +1,10 @@
--- `sections::read_moves` meets its contract. The loop's invariant is `LinesRead`. Assumes nothing.
+-- `read_moves` meets its contract. The loop's invariant is `LinesRead`.
 use borrow.Author.Needs.{needs}
 use Prim.Native.Nat.{_-_}
 use native.Mathlib.Omega.{arith}
 use Rattle.route_sheet.specs.Sheet.{mostMoves}
 use Rattle.route_sheet.specs.Reading.{readMove}
-use Rattle.route_sheet.specs.Answer.{noMove}
+use Rattle.route_sheet.specs.Answer.{zeroMove}
 use Rattle.route_sheet.specs.Inner.Parts.{moveRead}
 use Rattle.route_sheet.proofs.PartLaws.{as-read}
 use Rattle.route_sheet.proofs.SectionRuns.{LinesRead, none-read, one-read, section-stuck, section-whole}
@@ -12,18 +12,17 @@ use Rattle.route_sheet.proofs.sections.read_moves.Statement.{statement}
 use Rattle.route_sheet.proofs.sections.read_moves.Tie as tie
 
 abbrev Inv-loop : tie.InvT-loop
-Inv-loop text from sets count moves₀ done₀ next₀ moves done next = LinesRead (readMove sets) text from mostMoves noMove count done next moves
+Inv-loop text from sets count moves₀ done₀ next₀ moves done next =
+    LinesRead (readMove sets) text from mostMoves zeroMove count done next moves
 
 abbrev μ-loop : tie.MeasureT-loop
 μ-loop text from sets count moves₀ done₀ next₀ moves done next = count - done
 
-no-moves-requires : tie.Need-no-moves-requires Inv-loop μ-loop
-no-moves-requires c κs = search needs
+zero-moves-requires : tie.Need-zero-moves-requires Inv-loop μ-loop
+zero-moves-requires c κs = search needs
 
 loop-holds : tie.Need-loop-holds Inv-loop μ-loop
-loop-holds c =
-    let args = c .before .before .args in
-    rw (c .no-moves .ensures) (none-read (readMove (args .sets)) (args .text .now) (args .from) mostMoves noMove (args .count))
+loop-holds c = rw (c .zero-moves .ensures) none-read
 
 read-move-requires : tie.Need-read-move-requires Inv-loop μ-loop
 read-move-requires c κs = search needs
@@ -36,12 +35,9 @@ enum-told c = search needs
 
 returns : tie.Need-returns Inv-loop μ-loop
 returns c =
-    let args = c .before .before .before .before .before .before .before .args in
-    let loop = c .before .before .before .before .loop in
-    let line = c .before .before .read-move in
-    section-stuck (readMove (args .sets)) (args .text .now) (args .from) mostMoves noMove (args .count) (loop .done) (loop .next) (loop .moves) (loop .inv)
-    (c .before .before .before .loop-test .taken)
-    (as-read (moveRead (args .text .now)) (line .ensures) (c .enum-told .given .1))
+    let text = c .before .before .before .before .before .before .before .args .text .now in
+    section-stuck (c .before .before .before .before .loop .inv) (c .before .before .before .loop-test .taken)
+    (as-read (moveRead text) (c .before .before .read-move .ensures) (c .enum-told .given .1))
 
 mul-moves : tie.Need-mul-moves Inv-loop μ-loop
 mul-moves c = omega arith
@@ -57,21 +53,13 @@ loop-less c = omega arith
 
 loop-again : tie.Need-loop-again Inv-loop μ-loop
 loop-again c =
-    let args = c .before .before .before .before .before .before .before .before .args in
-    let loop = c .before .before .before .before .before .loop in
-    let line = c .before .before .before .read-move in
-    one-read (readMove (args .sets)) (args .text .now) (args .from) mostMoves noMove (args .count) (loop .done) (loop .next) (loop .moves) (loop .inv)
-    (c .before .line .given .0 .0) (c .before .line .given .0 .1 .0)
-    (c .before .before .before .before .before .before .before .before .pre .moves)
-    (c .before .before .before .before .loop-test .taken)
-    (as-read (moveRead (args .text .now)) (line .ensures) (c .before .line .given .1))
+    let start = c .before .before .before .before .before .before .before .before in
+    one-read (c .before .before .before .before .before .loop .inv) (c .before .line .given .0 .0) (c .before .line .given .0 .1 .0)
+    (start .pre .moves) (c .before .before .before .before .loop-test .taken)
+    (as-read (moveRead (start .args .text .now)) (c .before .before .before .read-move .ensures) (c .before .line .given .1))
 
 returns-2 : tie.Need-returns-2 Inv-loop μ-loop
-returns-2 c =
-    let args = c .before .before .before .before .args in
-    let loop = c .before .loop in
-    section-whole (readMove (args .sets)) (args .text .now) (args .from) mostMoves noMove (args .count) (loop .done) (loop .next) (loop .moves) (loop .inv)
-    (c .loop-test .left)
+returns-2 c = section-whole (c .before .loop .inv) (c .loop-test .left)
 
 pub read-moves-spec : {M : Type 1} → statement M
 read-moves-spec =
@@ -79,7 +67,7 @@ read-moves-spec =
     (tie.spec
     Inv-loop
     μ-loop
-    no-moves-requires
+    zero-moves-requires
     loop-holds
     read-move-requires
     enum-known-line

@@ -1,10 +1,10 @@
--- `sections::read_sets` meets its contract. The loop's invariant is `LinesRead`. Assumes nothing.
+-- `read_sets` meets its contract. The loop's invariant is `LinesRead`.
 use borrow.Author.Needs.{needs}
 use Prim.Native.Nat.{_-_}
 use native.Mathlib.Omega.{arith}
 use Rattle.route_sheet.specs.Sheet.{mostSets}
 use Rattle.route_sheet.specs.Reading.{readSet}
-use Rattle.route_sheet.specs.Answer.{noSet}
+use Rattle.route_sheet.specs.Answer.{zeroSet}
 use Rattle.route_sheet.specs.Inner.Parts.{setRead}
 use Rattle.route_sheet.proofs.PartLaws.{as-read}
 use Rattle.route_sheet.proofs.SectionRuns.{LinesRead, none-read, one-read, section-stuck, section-whole}
@@ -12,18 +12,16 @@ use Rattle.route_sheet.proofs.sections.read_sets.Statement.{statement}
 use Rattle.route_sheet.proofs.sections.read_sets.Tie as tie
 
 abbrev Inv-loop : tie.InvT-loop
-Inv-loop text from count sets₀ done₀ next₀ sets done next = LinesRead readSet text from mostSets noSet count done next sets
+Inv-loop text from count sets₀ done₀ next₀ sets done next = LinesRead readSet text from mostSets zeroSet count done next sets
 
 abbrev μ-loop : tie.MeasureT-loop
 μ-loop text from count sets₀ done₀ next₀ sets done next = count - done
 
-no-sets-requires : tie.Need-no-sets-requires Inv-loop μ-loop
-no-sets-requires c κs = search needs
+zero-sets-requires : tie.Need-zero-sets-requires Inv-loop μ-loop
+zero-sets-requires c κs = search needs
 
 loop-holds : tie.Need-loop-holds Inv-loop μ-loop
-loop-holds c =
-    let args = c .before .before .args in
-    rw (c .no-sets .ensures) (none-read readSet (args .text .now) (args .from) mostSets noSet (args .count))
+loop-holds c = rw (c .zero-sets .ensures) none-read
 
 read-set-requires : tie.Need-read-set-requires Inv-loop μ-loop
 read-set-requires c κs = search needs
@@ -36,12 +34,9 @@ enum-told c = search needs
 
 returns : tie.Need-returns Inv-loop μ-loop
 returns c =
-    let args = c .before .before .before .before .before .before .before .args in
-    let loop = c .before .before .before .before .loop in
-    let line = c .before .before .read-set in
-    section-stuck readSet (args .text .now) (args .from) mostSets noSet (args .count) (loop .done) (loop .next) (loop .sets) (loop .inv)
-    (c .before .before .before .loop-test .taken)
-    (as-read (setRead (args .text .now)) (line .ensures) (c .enum-told .given .1))
+    let text = c .before .before .before .before .before .before .before .args .text .now in
+    section-stuck (c .before .before .before .before .loop .inv) (c .before .before .before .loop-test .taken)
+    (as-read (setRead text) (c .before .before .read-set .ensures) (c .enum-told .given .1))
 
 mul-sets : tie.Need-mul-sets Inv-loop μ-loop
 mul-sets c = omega arith
@@ -57,21 +52,13 @@ loop-less c = omega arith
 
 loop-again : tie.Need-loop-again Inv-loop μ-loop
 loop-again c =
-    let args = c .before .before .before .before .before .before .before .before .args in
-    let loop = c .before .before .before .before .before .loop in
-    let line = c .before .before .before .read-set in
-    one-read readSet (args .text .now) (args .from) mostSets noSet (args .count) (loop .done) (loop .next) (loop .sets) (loop .inv)
-    (c .before .line .given .0 .0) (c .before .line .given .0 .1 .0)
-    (c .before .before .before .before .before .before .before .before .pre)
-    (c .before .before .before .before .loop-test .taken)
-    (as-read (setRead (args .text .now)) (line .ensures) (c .before .line .given .1))
+    let start = c .before .before .before .before .before .before .before .before in
+    one-read (c .before .before .before .before .before .loop .inv) (c .before .line .given .0 .0) (c .before .line .given .0 .1 .0)
+    (start .pre) (c .before .before .before .before .loop-test .taken)
+    (as-read (setRead (start .args .text .now)) (c .before .before .before .read-set .ensures) (c .before .line .given .1))
 
 returns-2 : tie.Need-returns-2 Inv-loop μ-loop
-returns-2 c =
-    let args = c .before .before .before .before .args in
-    let loop = c .before .loop in
-    section-whole readSet (args .text .now) (args .from) mostSets noSet (args .count) (loop .done) (loop .next) (loop .sets) (loop .inv)
-    (c .loop-test .left)
+returns-2 c = section-whole (c .before .loop .inv) (c .loop-test .left)
 
 pub read-sets-spec : {M : Type 1} → statement M
 read-sets-spec =
@@ -79,7 +66,7 @@ read-sets-spec =
     (tie.spec
     Inv-loop
     μ-loop
-    no-sets-requires
+    zero-sets-requires
     loop-holds
     read-set-requires
     enum-known-line

@@ -1,17 +1,17 @@
--- `sheet::read_lines` meets its contract: the first section, and what follows it. Assumes nothing.
+-- `read_lines` meets its contract: the first section, and what follows it.
 use borrow.Author.Needs.{needs}
 use mathlib.Core.List.{List}
 use mathlib.Core.Path.{_≡_, ap, _∙_}
-use Prim.Native.Nat.{ℕ, _+_, _≤_}
+use Prim.Native.Nat.{ℕ, _≤_}
 use native.Mathlib.Omega.{arith}
 use lib.ListN.{drop}
 use Rattle.route_sheet.specs.Text.{lineEnd}
 use Rattle.route_sheet.specs.Sheet.{mostSets}
-use Rattle.route_sheet.specs.Reading.{got, readNumber, readSections}
+use Rattle.route_sheet.specs.Reading.{got, readNumber}
 use Rattle.route_sheet.specs.Answer.{heldOf}
 use Rattle.route_sheet.specs.Inner.Parts.{numberRead}
 use Rattle.route_sheet.proofs.PartLaws.{as-read, number-most}
-use Rattle.route_sheet.proofs.SheetRuns.{section-stops, no-set-count, no-sets, sets-held, first-read, result-stuck}
+use Rattle.route_sheet.proofs.SheetRuns.{set-count-stuck, sets-stuck, sets-held, first-read}
 use Rattle.route_sheet.proofs.sheet.read_lines.Statement.{statement}
 use Rattle.route_sheet.proofs.sheet.read_lines.Tie as tie
 
@@ -31,19 +31,19 @@ returns : tie.Need-returns
 returns c =
     let text = c .before .before .before .before .before .args .text .now in
     let none = as-read (numberRead text) (c .before .before .before .read-number .ensures .read-is) (c .before .enum-told .given .1) in
-    c .malformed .ensures ∙ ap heldOf (result-stuck (readSections text) 0 1 (no-set-count text none) (omega arith))
+    c .malformed .ensures ∙ ap heldOf (set-count-stuck text none)
 
--- The count: what it is, and where its section begins.
+-- The count, and the lines after it.
 abbrev textOf : tie.After-known-told → List ℕ
 textOf c = c .before .before .before .before .before .args .text .now
 
 abbrev setCount : tie.After-known-told → ℕ
 setCount c = c .before .count .given .0 .0
 
-abbrev firstLine : tie.After-known-told → ℕ
-firstLine c = c .before .count .given .0 .1 .0
+abbrev linesOf : tie.After-known-told → List ℕ
+linesOf c = drop (c .before .count .given .0 .1 .0) (textOf c)
 
-counted : (c : tie.After-known-told) → readNumber 1 mostSets lineEnd (textOf c) ≡ got (setCount c) (drop (firstLine c) (textOf c))
+counted : (c : tie.After-known-told) → readNumber 1 mostSets lineEnd (textOf c) ≡ got (setCount c) (linesOf c)
 counted c = as-read (numberRead (textOf c)) (c .before .before .before .read-number .ensures .read-is) (c .before .count .given .1)
 
 few : (c : tie.After-known-told) → setCount c ≤ mostSets
@@ -62,27 +62,23 @@ returns-2 : tie.Need-returns-2
 returns-2 c =
     let d = c .before .before .before .before .before in
     let section = c .before .before .before .before .read-sets in
-    let stops = section-stops (section .ensures) (c .before .before .if1 .taken) in
     c .malformed2 .ensures
     ∙ ap heldOf
-    (result-stuck (readSections (textOf d)) (1 + section .result .done) (2 + section .result .done)
-    (no-sets (textOf d) (setCount d) (drop (firstLine d) (textOf d)) (counted d) (section .result .done) stops)
-    (omega arith))
+    (sets-stuck (textOf d) (setCount d) (linesOf d) (counted d) (section .result) (section .ensures) (c .before .before .if1 .taken))
 
 read-second-requires : tie.Need-read-second-requires
 read-second-requires c κs =
     let d = c .before .before .before in
     let section = c .before .before .read-sets in
-    sets-held (textOf d) (setCount d) (drop (firstLine d) (textOf d)) (counted d) (section .result) (section .ensures) (few d)
+    sets-held (textOf d) (setCount d) (linesOf d) (counted d) (section .result) (section .ensures) (few d)
 
 returns-3 : tie.Need-returns-3
 returns-3 c =
     let e = c .before in
     let d = e .before .before .before in
     let section = e .before .before .read-sets in
-    let is =
-    first-read (textOf d) (setCount d) (drop (firstLine d) (textOf d)) (counted d) (section .result) (section .ensures) (e .if1 .left) in
-    rw is (c .read-second .ensures)
+    rw (first-read (textOf d) (setCount d) (linesOf d) (counted d) (section .result) (section .ensures) (e .if1 .left))
+    (c .read-second .ensures)
 
 pub read-lines-spec : {M : Type 1} → statement M
 read-lines-spec =

@@ -1,20 +1,18 @@
--- `sheet::read_second` meets its contract: the second section, and nothing after it. Assumes nothing.
+-- `read_second` meets its contract: the second section, and nothing after it.
 use borrow.Author.Needs.{needs}
 use mathlib.Core.List.{List}
 use mathlib.Core.Path.{_≡_, ap, _∙_}
-use Prim.Native.Nat.{ℕ, _+_, _≤_}
+use Prim.Native.Nat.{ℕ, _≤_}
 use native.Mathlib.Omega.{arith}
-use lib.ListN.{length, drop}
+use lib.ListN.{drop}
 use Rattle.route_sheet.specs.Text.{lineEnd}
-use Rattle.route_sheet.specs.Sheet.{Sheet, mostMoves}
-use Rattle.route_sheet.specs.Result.{malformed}
-use Rattle.route_sheet.specs.Reading.{got, stuck, readNumber, linesIn}
+use Rattle.route_sheet.specs.Sheet.{mostMoves}
+use Rattle.route_sheet.specs.Reading.{got, readNumber}
 use Rattle.route_sheet.specs.Answer.{heldOf}
 use Rattle.route_sheet.specs.Inner.Parts.{numberRead}
-use Rattle.route_sheet.specs.Inner.Sections.{setsIn, readAfter}
 use Rattle.route_sheet.specs.declared.sections.SetsRead.{SetsRead}
 use Rattle.route_sheet.proofs.PartLaws.{as-read, number-most}
-use Rattle.route_sheet.proofs.SheetRuns.{section-stops, section-given, section-length, no-move-count, no-moves, all-moves, result-stuck, result-followed, result-listed, held-listed}
+use Rattle.route_sheet.proofs.SheetRuns.{move-count-stuck, moves-stuck, sheet-followed, sheet-listed}
 use Rattle.route_sheet.proofs.sheet.read_second.Statement.{statement}
 use Rattle.route_sheet.proofs.sheet.read_second.Tie as tie
 
@@ -46,16 +44,13 @@ malformed-requires c κs = search needs
 returns : tie.Need-returns
 returns c =
     let d = c .before .before .before in
-    let first = firstOf d in
-    let none : readNumber 1 mostMoves lineEnd (secondText d) ≡ stuck 0 =
-    as-read {found = readNumber 1 mostMoves lineEnd (secondText d)} (numberRead (textOf d)) (d .read-number .ensures .read-is) (c .before .enum-told .given .1) in
     c .malformed .ensures
     ∙ ap heldOf
-    (result-stuck (readAfter first (textOf d)) (1 + first .done) (2 + first .done)
-    (no-move-count (first .done) (setsIn first) (secondText d) none)
-    (omega arith))
+    (move-count-stuck (firstOf d) (textOf d)
+    (as-read {found = readNumber 1 mostMoves lineEnd (secondText d)} (numberRead (textOf d)) (d .read-number .ensures .read-is)
+    (c .before .enum-told .given .1)))
 
--- The count: what it is, and where its section begins.
+-- The count, and the lines after it.
 abbrev read : tie.After-known-told → tie.After-read-number
 read c = c .before .before .before
 
@@ -88,38 +83,15 @@ malformed-requires-2 c κs = search needs
 returns-2 : tie.Need-returns-2
 returns-2 c =
     let d = c .before .before .before .before .before in
-    let first = firstOf (read d) in
     let section = c .before .before .before .before .read-moves in
-    let stops = section-stops (section .ensures) (c .before .before .if1 .taken) in
     c .malformed2 .ensures
     ∙ ap heldOf
-    (result-stuck (readAfter first (textOf (read d))) (2 + first .done + section .result .done) (3 + first .done + section .result .done)
-    (no-moves (first .done) (setsIn first) (secondText (read d)) (moveCount d) (lines d) (counted d) (section .result .done) stops)
-    (omega arith))
+    (moves-stuck (firstOf (read d)) (textOf (read d)) (moveCount d) (lines d) (counted d) (section .result) (section .ensures)
+    (c .before .before .if1 .taken))
 
--- The moves, all of them: the whole sheet, and where it ends.
+-- The count, seen from where all moves are read.
 abbrev listed : tie.After-struct-known3 → tie.After-known-told
 listed c = c .before .before .before .before
-
-abbrev sheetOf : tie.After-struct-known3 → Sheet
-sheetOf c = record { sets = setsIn (firstOf (read (listed c))); moves = c .before .before .before .read-moves .ensures .lines .values }
-
-abbrev afterMoves : tie.After-struct-known3 → ℕ
-afterMoves c = c .before .before .before .read-moves .result .next
-
-all-lines :
-    (c : tie.After-struct-known3) →
-    let text = textOf (read (listed c)) in
-    readAfter (firstOf (read (listed c))) text ≡ got (sheetOf c) (drop (afterMoves c) text)
-all-lines c =
-    let d = listed c in
-    let first = firstOf (read d) in
-    let moves = section-given (c .before .before .before .read-moves .ensures) (c .before .if1 .left) in
-    all-moves (first .done) (setsIn first) (secondText (read d)) (moveCount d) (lines d) (counted d) (sheetOf c .moves)
-    (drop (afterMoves c) (textOf (read d))) moves
-
-move-length : (c : tie.After-struct-known3) → length (sheetOf c .moves) ≡ moveCount (listed c)
-move-length c = section-length (c .before .before .before .read-moves .ensures) (c .before .if1 .left)
 
 add-malformed-4 : tie.Need-add-malformed-4
 add-malformed-4 c = omega (arith, read (listed (c .before)) .before .before .pre .few)
@@ -132,22 +104,21 @@ malformed-requires-3 c κs = search needs
 
 returns-3 : tie.Need-returns-3
 returns-3 c =
-    let g = c .before .before in
-    let d = read (listed g) in
-    let line : 3 + firstOf d .done + moveCount (listed g) ≡ 1 + linesIn (sheetOf g) = omega (arith, d .before .before .pre .count, move-length g) in
+    let e = c .before .before in
+    let d = listed e in
+    let section = e .before .before .before .read-moves in
     c .malformed3 .ensures
     ∙ ap heldOf
-    (ap malformed line
-    ∙ result-followed (readAfter (firstOf d) (textOf d)) (sheetOf g) (afterMoves g) (textOf d) (all-lines g) (c .before .if2 .taken))
+    (sheet-followed (firstOf (read d)) (textOf (read d)) (moveCount d) (lines d) (counted d) (section .result) (section .ensures)
+    (read d .before .before .pre) (e .before .if1 .left) (c .before .if2 .taken))
 
 returns-4 : tie.Need-returns-4
 returns-4 c =
-    let g = c .before .before .before in
-    let d = read (listed g) in
-    held-listed (sheetOf g) (firstOf d .done) (moveCount (listed g)) _ _ (d .before .before .pre .count) (move-length g)
-    (d .before .before .pre .places-are)
-    (g .before .before .before .read-moves .ensures .lines .places-are)
-    ∙ ap heldOf (result-listed (readAfter (firstOf d) (textOf d)) (sheetOf g) (afterMoves g) (textOf d) (all-lines g) (c .before .before .if2 .left))
+    let e = c .before .before .before in
+    let d = listed e in
+    let section = e .before .before .before .read-moves in
+    sheet-listed (firstOf (read d)) (textOf (read d)) (moveCount d) (lines d) (counted d) (section .result) (section .ensures)
+    (read d .before .before .pre) (e .before .if1 .left) (c .before .before .if2 .left)
 
 pub read-second-spec : {M : Type 1} → statement M
 read-second-spec =

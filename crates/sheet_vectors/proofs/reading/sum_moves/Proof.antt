@@ -1,4 +1,4 @@
--- `reading::sum_moves` reads inside its places and ends. Assumes nothing.
+-- `sum_moves` reads inside its places and ends.
 use borrow.Author.Needs.{needs}
 use Prim.Native.Nat.{_-_, _≤_}
 use Rattle.sheet_vectors.proofs.reading.sum_moves.Statement.{statement}

@@ -1,4 +1,4 @@
--- `reading::sum_sets` reads inside its places and ends. Assumes nothing.
+-- `sum_sets` reads inside its places and ends.
 use borrow.Author.Needs.{needs}
 use Prim.Native.Nat.{_-_, _≤_}
 use Rattle.sheet_vectors.proofs.reading.sum_sets.Statement.{statement}

@@ -1,4 +1,4 @@
--- `request::fill_rest` writes inside its text and ends. Assumes nothing.
+-- `fill_rest` writes inside its text and ends.
 use borrow.Author.Needs.{needs}
 use mathlib.Core.Path.{_≡_}
 use Prim.Native.Nat.{_-_}

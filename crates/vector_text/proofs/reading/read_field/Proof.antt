@@ -1,4 +1,4 @@
--- `reading::read_field` reads inside its line and ends. Assumes nothing.
+-- `reading::read_field` reads inside its line and ends.
 use borrow.Author.Needs.{needs}
 use Prim.Native.Nat.{_≤_}
 use Rattle.vector_text.proofs.reading.read_field.Statement.{statement}

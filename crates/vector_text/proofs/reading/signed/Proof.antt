@@ -1,4 +1,4 @@
--- `reading::signed`: −1 less a size below 2^63 is an i64. Assumes nothing.
+-- `reading::signed`: −1 less a size below 2^63 is an i64.
 use mathlib.Core.Path.{_≡_, refl, ap}
 use Prim.Native.Nat.{ℕ, zero, suc, _-_, _^_, _<_}
 use native.Mathlib.Nat.{zero-add}

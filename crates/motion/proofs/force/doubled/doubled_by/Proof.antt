@@ -1,4 +1,4 @@
--- `doubled_by` meets its contract. Assumes nothing.
+-- `doubled_by` meets its contract.
 use mathlib.Core.Path.{refl}
 use mir.Syntax.{w64}
 use mir.Facts.{toZ-ofZ}
@@ -16,18 +16,25 @@ add-j2 : tie.Need-add-j2
 add-j2 c =
     let d = c .before .before .before .before in
     let t = c .struct-told2 .given .1 .1 in
-    rw (toZ-ofZ {w = w64} {z = d .args .earlier .jerk1} (record { sfits = t .0 .1 }), toZ-ofZ {w = w64} {z = d .args .earlier .jerk2} (record { sfits = t .1 .0 .1 }))
+    rw (
+      toZ-ofZ {w = w64} {z = d .args .earlier .jerk1} (record { sfits = t .0 .1 }),
+      toZ-ofZ {w = w64} {z = d .args .earlier .jerk2} (record { sfits = t .1 .0 .1 }),
+    )
     (within-53 _ (d .pre .j2))
 
 mul-a2 : tie.Need-mul-a2
 mul-a2 c =
     let d = c .before .before .before .before .before .before in
-    rw (toZ-ofZ {w = w64} {z = d .args .earlier .acceleration1} (record { sfits = c .struct-told3 .given .1 .1 .1 .1 .0 .1 })) (within-53 _ (d .pre .a2))
+    rw (toZ-ofZ {w = w64} {z = d .args .earlier .acceleration1} (record { sfits = c .struct-told3 .given .1 .1 .1 .1 .0 .1 }))
+    (within-53 _ (d .pre .a2))
 
 add-v2 : tie.Need-add-v2
 add-v2 c =
     let d = c .before .before .before .before .before .before .before .before in
-    rw (toZ-ofZ {w = w64} {z = d .args .velocity} (d .fits .velocity), toZ-ofZ {w = w64} {z = d .args .earlier .velocity1} (record { sfits = c .struct-told4 .given .1 .1 .1 .1 .1 .0 .1 }))
+    rw (
+      toZ-ofZ {w = w64} {z = d .args .velocity} (d .fits .velocity),
+      toZ-ofZ {w = w64} {z = d .args .earlier .velocity1} (record { sfits = c .struct-told4 .given .1 .1 .1 .1 .1 .0 .1 }),
+    )
     (within-53 _ (d .pre .v2))
 
 returns : tie.Need-returns

@@ -1,4 +1,4 @@
--- `earlier_next` meets its contract: each value moves one sample back. Assumes nothing.
+-- `earlier_next` meets its contract: each value moves one sample back.
 use mir.Syntax.{w64}
 use mir.Facts.{toZ-ofZ}
 use Rattle.motion.proofs.force.doubled.earlier_next.Statement.{statement}

@@ -1,4 +1,4 @@
--- `drive_of` meets its contract. Assumes nothing.
+-- `drive_of` meets its contract.
 use lib.Ieee.{ofBits}
 use Rattle.motion.specs.ForceRows.Force.{g, alpha, beta}
 use Rattle.motion.proofs.ForceRows.MachineLaws.{is-rigid, is-filtered}

@@ -1,4 +1,4 @@
--- `as_read` meets its contract. Assumes nothing.
+-- `as_read` meets its contract.
 use lib.Ieee.{ofBits}
 use Rattle.motion.proofs.ForceRows.MachineLaws.{zero-read, other-read}
 use Rattle.motion.proofs.force.machine_range.as_read.Statement.{statement}

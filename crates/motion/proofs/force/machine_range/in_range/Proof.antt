@@ -1,4 +1,4 @@
--- `in_range` meets its contract. Assumes nothing.
+-- `in_range` meets its contract.
 use lib.Ieee.{ofBits}
 use Rattle.motion.proofs.ForceRows.MachineLaws.{from-zero, below-zero}
 use Rattle.motion.proofs.force.machine_range.in_range.Statement.{statement}

@@ -1,4 +1,4 @@
--- `machine_as_read` meets its contract. Assumes nothing.
+-- `machine_as_read` meets its contract.
 use borrow.Author.Needs.{needs}
 use Rattle.motion.specs.ForceRows.Machine.{machineAsRead}
 use Rattle.motion.proofs.force.machine_range.machine_as_read.Statement.{statement}

@@ -1,4 +1,4 @@
--- `machine_in_range` meets its contract. Assumes nothing.
+-- `machine_in_range` meets its contract.
 use borrow.Author.Needs.{needs}
 use mathlib.Core.Path.{refl}
 use lib.Ieee.{ofBits}
@@ -28,7 +28,14 @@ returns : tie.Need-returns
 unfolding machineInRange ofBits
 returns c =
     let d = c .before .before .before in
-    rw (d .before .before .before .in-range .ensures, d .before .before .in-range2 .ensures, d .before .in-range3 .ensures, d .in-range4 .ensures, c .before .before .in-range5 .ensures, c .before .in-range6 .ensures) refl
+    rw (
+      d .before .before .before .in-range .ensures,
+      d .before .before .in-range2 .ensures,
+      d .before .in-range3 .ensures,
+      d .in-range4 .ensures,
+      c .before .before .in-range5 .ensures,
+      c .before .in-range6 .ensures,
+    ) refl
 
 pub machine-in-range-spec : {M : Type 1} → statement M
 machine-in-range-spec =

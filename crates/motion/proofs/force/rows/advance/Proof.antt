@@ -1,4 +1,4 @@
--- `advance` meets its contract. Assumes nothing.
+-- `advance` meets its contract.
 use borrow.Author.Needs.{needs}
 use mir.Syntax.{w64}
 use mir.Facts.{toZ-ofZ}

@@ -1,4 +1,4 @@
--- `first_row` meets its contract. Assumes nothing.
+-- `first_row` meets its contract.
 use borrow.Author.Needs.{needs}
 use lib.Ieee.{ofBits}
 use Rattle.motion.specs.Inner.Rows.{firstRow}

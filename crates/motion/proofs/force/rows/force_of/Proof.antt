@@ -1,4 +1,4 @@
--- `force_of` meets its contract. Assumes nothing.
+-- `force_of` meets its contract.
 use borrow.Author.Needs.{needs}
 use mathlib.Core.Path.{refl}
 use Rattle.motion.specs.ForceRows.Force.{filteredForce}

@@ -1,4 +1,4 @@
--- `row_in` meets its contract. Assumes nothing.
+-- `row_in` meets its contract.
 use borrow.Author.Needs.{needs}
 use mathlib.Core.Path.{_≡_, ap, _∙_}
 use mir.Syntax.{w64}
@@ -14,10 +14,12 @@ doubled-by-requires c κs = search needs
 -- the velocity as it is passed on
 doubled :
     (c : tie.After-doubled-by)
-    → doubledNumbers (c .doubled-by .result) ≡ doubledBy (c .before .before .args .current .state .velocity) (c .before .before .args .current .earlier)
+    → doubledNumbers (c .doubled-by .result)
+    ≡ doubledBy (c .before .before .args .current .state .velocity) (c .before .before .args .current .earlier)
 doubled c =
     let velocity = c .before .before .args .current .state .velocity in
-    rw (toZ-ofZ {w = w64} {z = velocity} (record { sfits = c .before .struct-told .given .0 .1 .1 .1 .1 .1 .0 .1 })) at (c .doubled-by .ensures)
+    rw (toZ-ofZ {w = w64} {z = velocity} (record { sfits = c .before .struct-told .given .0 .1 .1 .1 .1 .1 .0 .1 })) at
+    (c .doubled-by .ensures)
 
 u-of-requires : tie.Need-u-of-requires
 u-of-requires c κs = rw (doubled c) (c .before .before .pre)

@@ -1,4 +1,4 @@
--- `u_of` meets its contract: each cast is exact, and the operations stand in the order of the rule. Assumes nothing.
+-- `u_of` meets its contract: each cast is exact, and the operations stand in the order of the rule.
 use mathlib.Core.Path.{refl}
 use lib.Ieee.{ofBits}
 use mir.Syntax.{w64}

@@ -1,4 +1,4 @@
--- `store_rows` meets its contract. The loop's invariant: the run that is left comes to the same as the run asked for. Assumes nothing.
+-- `store_rows` meets its contract. The loop's invariant: the run that is left comes to the same as the run asked for.
 use mathlib.Core.List.{List, _∷_}
 use mathlib.Core.Path.{subst}
 use Prim.Native.Nat.{_-_, _<_}
@@ -32,7 +32,8 @@ snap d = toZ w64 (ofZ w64 (d .args .snap))
 
 abbrev Remains : tie.Start Inv-loop μ-loop → List ℤ → RowState → List Float → Type 0
 Remains d xs state table =
-    Remaining (forceWriter (d .args .feedforward)) xs state table (replicate (d .args .count) (snap d)) (d .args .from) (d .args .table .now)
+    Remaining (forceWriter (d .args .feedforward)) xs state table (replicate (d .args .count) (snap d)) (d .args .from)
+    (d .args .table .now)
 
 -- there is a snap left
 begun :
@@ -68,7 +69,8 @@ loop-again c = rw (c .advance .ensures, c .before .row-in .ensures) (one-done (b
 abbrev Made : tie.After-loop Inv-loop μ-loop → ℤ → Type 0
 Made c x =
     let a = c .before .before .before .args in
-    Ran (forceWriter (a .feedforward)) (replicate (a .count) x) (a .from) (a .table .now) (c .before .loop .table) (c .before .loop .current)
+    Ran (forceWriter (a .feedforward)) (replicate (a .count) x) (a .from) (a .table .now) (c .before .loop .table)
+    (c .before .loop .current)
 
 ran : (c : tie.After-loop Inv-loop μ-loop) → Made c (c .before .before .before .args .snap)
 ran c = subst (Made c) (toZ-ofZ (c .before .before .before .fits .snap)) (none-of _ _ (c .loop-test .left) (c .before .loop .inv))

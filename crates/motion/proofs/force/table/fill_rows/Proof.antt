@@ -1,4 +1,4 @@
--- `fill_rows` meets its contract. The loop's invariant: the segments that are left come to the same as all of them. Assumes nothing.
+-- `fill_rows` meets its contract. The loop's invariant: the segments that are left come to the same as all of them.
 use mathlib.Core.Path.{subst}
 use Prim.Native.Nat.{_-_}
 use native.Mathlib.Omega.{arith}
@@ -45,7 +45,9 @@ loop-holds c =
     let l = c .before .before in
     let d = l .before .before .before in
     first-segment (d .pre .0) (l .durations-of .ensures) (levels (l .before))
-    (rw (c .first-row .ensures) (forces-can-run (d .args .displacement) _ _ _ _ _ (d .pre .0) (c .before .feedforward-of .ensures) _ (omega arith) (omega (arith, d .pre .1))))
+    (rw (c .first-row .ensures)
+    (forces-can-run (d .args .displacement) _ _ _ _ _ (d .pre .0) (c .before .feedforward-of .ensures) _ (omega arith)
+    (omega (arith, d .pre .1))))
 
 segment-at-requires : tie.Need-segment-at-requires Inv-loop μ-loop
 segment-at-requires c κs = omega arith
@@ -74,7 +76,8 @@ ran :
     (c : tie.After-loop Inv-loop μ-loop)
     → let d = c .before .before in
     let l = d .before .before in
-    Ran (forceWriter (d .before .feedforward-of .result)) (snapsFrom (l .durations-of .result) (l .before .levels-of .result) 0) (d .first-row .result)
+    Ran (forceWriter (d .before .feedforward-of .result)) (snapsFrom (l .durations-of .result) (l .before .levels-of .result) 0)
+    (d .first-row .result)
     (l .before .before .before .args .table .now) (c .before .loop .table) (c .before .loop .current)
 ran c = all-ran (c .before .loop .inv) (omega (arith, c .loop-test .left))
 
@@ -87,7 +90,11 @@ returns c =
     let l = r .before .before in
     let d = l .before .before .before in
     let whole = plan-ran (d .pre .0) (l .durations-of .ensures) (levels (l .before)) (ran c) in
-    forces-in (d .args .displacement) _ _ _ _ _ (d .pre .0) (r .before .feedforward-of .ensures) (d .pre .1) (rw (r .first-row .ensures) at whole)
+    forces-in (d .args .displacement) _ _ _ _ _ (d .pre .0) (r .before .feedforward-of .ensures) (d .pre .1)
+    (rw (r .first-row .ensures) at whole)
 
 pub fill-rows-spec : {M : Type 1} → statement M
-fill-rows-spec = tie.close (tie.spec Inv-loop μ-loop levels-of-requires durations-of-requires feedforward-of-requires first-row-requires loop-holds segment-at-requires store-rows-requires add-i loop-less loop-again same-length returns)
+fill-rows-spec =
+    tie.close
+    (tie.spec Inv-loop μ-loop levels-of-requires durations-of-requires feedforward-of-requires first-row-requires loop-holds
+    segment-at-requires store-rows-requires add-i loop-less loop-again same-length returns)

@@ -1,4 +1,4 @@
--- `write_rows` meets its contract. Assumes nothing.
+-- `write_rows` meets its contract.
 use borrow.Author.Needs.{needs}
 use mathlib.Core.Bool.{not}
 use mathlib.Core.List.{[], _∷_}

@@ -1,4 +1,4 @@
--- `store_segment` meets its contract. The loop's invariant: the run that is left comes to the same as the run asked for. Assumes nothing.
+-- `store_segment` meets its contract. The loop's invariant: the run that is left comes to the same as the run asked for.
 use mathlib.Core.List.{List, _∷_}
 use mathlib.Core.Path.{subst}
 use Prim.Native.Nat.{_-_, _<_}
@@ -29,12 +29,14 @@ abbrev snap : tie.Start Inv-loop μ-loop → ℤ
 snap d = toZ w64 (ofZ w64 (d .args .snap))
 
 abbrev Remains : tie.Start Inv-loop μ-loop → List ℤ → State → List ℤ → Type 0
-Remains d xs state table = Remaining positionWriter xs state table (replicate (d .args .count) (snap d)) (d .args .state) (d .args .table .now)
+Remains d xs state table =
+    Remaining positionWriter xs state table (replicate (d .args .count) (snap d)) (d .args .state) (d .args .table .now)
 
 -- there is a snap left
 begun :
     (c : tie.In-loop Inv-loop μ-loop)
-    → Remains (c .before .before) (snap (c .before .before) ∷ replicate (c .before .loop .left - 1) (snap (c .before .before))) (c .before .loop .current) (c .before .loop .table)
+    → let d = c .before .before in
+    Remains d (snap d ∷ replicate (c .before .loop .left - 1) (snap d)) (c .before .loop .current) (c .before .loop .table)
 begun c = one-of _ _ (c .loop-test .taken) (c .before .loop .inv)
 
 place : (c : tie.In-loop Inv-loop μ-loop) → c .before .loop .current .sample < length (c .before .loop .table)
@@ -57,11 +59,17 @@ loop-less c = omega arith
 
 loop-again : tie.Need-loop-again Inv-loop μ-loop
 loop-again c =
-    rw (c .step .ensures, toZ-ofZ {w = w64} {z = c .before .before .before .loop .current .position} (record { sfits = c .before .struct-told .given .1 .1 .1 .1 .0 .1 }))
+    let g = c .before .struct-told .given in
+    rw (
+      c .step .ensures,
+      toZ-ofZ {w = w64} {z = c .before .before .before .loop .current .position} (record { sfits = g .1 .1 .1 .1 .0 .1 }),
+    )
     (one-done (begun (c .before .before)))
 
 abbrev Made : tie.After-loop Inv-loop μ-loop → ℤ → Type 0
-Made c x = Ran positionWriter (replicate (c .before .before .args .count) x) (c .before .before .args .state) (c .before .before .args .table .now) (c .before .loop .table) (c .before .loop .current)
+Made c x =
+    let a = c .before .before .args in
+    Ran positionWriter (replicate (a .count) x) (a .state) (a .table .now) (c .before .loop .table) (c .before .loop .current)
 
 ran : (c : tie.After-loop Inv-loop μ-loop) → Made c (c .before .before .args .snap)
 ran c = subst (Made c) (toZ-ofZ (c .before .before .fits .snap)) (none-of _ _ (c .loop-test .left) (c .before .loop .inv))

@@ -1,4 +1,4 @@
--- `fill_table` meets its contract. The loop's invariant: the segments that are left come to the same as all of them. Assumes nothing.
+-- `fill_table` meets its contract. The loop's invariant: the segments that are left come to the same as all of them.
 use mathlib.Core.Path.{subst}
 use Prim.Native.Nat.{_-_}
 use native.Mathlib.Omega.{arith}
@@ -14,7 +14,8 @@ use Rattle.motion.proofs.positions.table.fill_table.Statement.{statemen
 use Rattle.motion.proofs.positions.table.fill_table.Tie as tie
 
 abbrev Inv-loop : tie.InvT-loop
-Inv-loop table₀ displacement levels durations state₀ i₀ table state i = SegmentsLeft positionWriter durations levels state₀ table₀ i state table
+Inv-loop table₀ displacement levels durations state₀ i₀ table state i =
+    SegmentsLeft positionWriter durations levels state₀ table₀ i state table
 
 abbrev μ-loop : tie.MeasureT-loop
 μ-loop table₀ displacement levels durations state₀ i₀ table state i = 16 - i
@@ -28,7 +29,9 @@ durations-of-requires c κs = c .before .pre .0 .ordered
 at-rest-requires : tie.Need-at-rest-requires Inv-loop μ-loop
 at-rest-requires c κs = tt
 
-levels : (c : tie.After-levels-of Inv-loop μ-loop) → AreLevels (c .before .args .displacement) (c .before .args .plan .snap) (c .levels-of .result)
+levels :
+    (c : tie.After-levels-of Inv-loop μ-loop)
+    → AreLevels (c .before .args .displacement) (c .before .args .plan .snap) (c .levels-of .result)
 levels c =
     let a = c .before .args in
     subst (λ X. AreLevels X (a .plan .snap) (c .levels-of .result)) (toZ-ofZ (c .before .fits .displacement)) (c .levels-of .ensures)
@@ -80,4 +83,7 @@ returns c =
     positions-in (d .args .displacement) _ _ _ _ _ (d .pre .0) (d .pre .1) (rw (r .at-rest .ensures) at whole)
 
 pub fill-table-spec : {M : Type 1} → statement M
-fill-table-spec = tie.close (tie.spec Inv-loop μ-loop levels-of-requires durations-of-requires at-rest-requires loop-holds segment-at-requires store-segment-requires add-i loop-less loop-again same-length returns)
+fill-table-spec =
+    tie.close
+    (tie.spec Inv-loop μ-loop levels-of-requires durations-of-requires at-rest-requires loop-holds segment-at-requires
+    store-segment-requires add-i loop-less loop-again same-length returns)

@@ -1,4 +1,5 @@
--- `write_positions` meets its contract. Assumes nothing.
+-- `write_positions` meets its contract.
+use borrow.Author.Needs.{needs}
 use mathlib.Core.List.{[]}
 use mathlib.Core.Path.{ap}
 use Prim.Native.Nat.{ℕ, _+_}
@@ -6,7 +7,6 @@ use native.Mathlib.Omega.{arith}
 use mir.Syntax.{w64}
 use mir.Facts.{toZ-ofZ}
 use Rattle.motion.proofs.FillLaws.{short, written}
-use borrow.Author.Needs.{needs}
 use Rattle.motion.proofs.positions.table.write_positions.Statement.{statement}
 use Rattle.motion.proofs.positions.table.write_positions.Tie as tie
 

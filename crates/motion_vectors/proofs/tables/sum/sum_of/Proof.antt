@@ -1,4 +1,4 @@
--- `sum::sum_of` reads inside its table and ends. Assumes nothing.
+-- `sum::sum_of` reads inside its table and ends.
 use borrow.Author.Needs.{needs}
 use Prim.Native.Nat.{_≤_, _-_}
 use lib.ListN.{length}

@@ -1,9 +1,9 @@
--- The same text for another kind of value: `carried` makes the format of the one kind from that of the other.
+-- The same text for another kind of value: `mapped` makes the format of the one kind from that of the other.
 use mathlib.Core.List.{List}
 use mathlib.Core.Path.{_≡_, refl, _∙_, sym, subst, fun-ext}
 use Prim.Native.Nat.{ℕ}
 use Rattle.route_sheet.specs.Reading.{Got, got, stuck, after, thenRead}
-use Rattle.route_sheet.proofs.FormatLaws.{Tells, Format}
+use Rattle.route_sheet.proofs.FormatLaws.{ReadingTells, Format}
 
 -- `make` takes the allowed values of one kind to those of another, each to one with the same text.
 pub record Makes {A C : Type 0} (text : A → List ℕ) (ok : A → Type 0) (text′ : C → List ℕ) (ok′ : C → Type 0) (make : A → C) : Type 0 where
@@ -16,18 +16,18 @@ pub record Makes {A C : Type 0} (text : A → List ℕ) (ok : A → Type 0) (tex
 module _ {A C : Type 0} {text : A → List ℕ} {ok : A → Type 0} {read : List ℕ → Got A} {text′ : C → List ℕ} {ok′ : C → Type 0} {make : A → C}
     (lines : ℕ) (f : Format text ok read) (m : Makes text ok text′ ok′ make)
   where
-    pub part-text : (c : C) (h : ok′ c) → text′ c ≡ text (m .part c h)
+    part-text : (c : C) (h : ok′ c) → text′ c ≡ text (m .part c h)
     part-text c h = cc (m .made-text (m .part c h) (m .part-ok c h), m .part-makes c h)
 
-    pub carried : Format text′ ok′ (λ t. thenRead lines (read t) λ a rest. got (make a) rest)
+    pub mapped : Format text′ ok′ (λ t. thenRead lines (read t) λ a rest. got (make a) rest)
     unfolding thenRead after
-    carried =
+    mapped =
         record {
           back = λ c h rest. rw (part-text c h, f .back (m .part c h) (m .part-ok c h) rest, m .part-makes c h);
           tells = λ t. go t (read t) (f .tells t);
         }
       where
-        go : (t : List ℕ) (x : Got A) → Tells text ok t x → Tells text′ ok′ t (thenRead lines x λ a rest. got (make a) rest)
+        go : (t : List ℕ) (x : Got A) → ReadingTells text ok t x → ReadingTells text′ ok′ t (thenRead lines x λ a rest. got (make a) rest)
         go t (got a rest) w = record { allowed = m .made-ok a (w .allowed); text-is = cc (w .text-is, m .made-text a (w .allowed)) }
         go t (stuck k) h =
             let b = h .begins in
@@ -52,9 +52,9 @@ then-got (got a rest) = refl
 then-got (stuck lines) = refl
 
 -- The same texts, written in another way.
-pub retold :
+pub rewritten :
     {A : Type 0} {text text′ : A → List ℕ} {ok : A → Type 0} {read : List ℕ → Got A} →
     Format text ok read → ((a : A) → ok a → text′ a ≡ text a) → Format text′ ok read
-retold {text′ = text′} {ok} {read} f same =
+rewritten {text′ = text′} {ok} {read} f same =
     subst (Format text′ ok) (fun-ext (λ t. then-got (read t)))
-    (carried 0 f (record { made-ok = λ a h. h; made-text = same; part = λ a h. a; part-ok = λ a h. h; part-makes = λ a h. refl }))
+    (mapped 0 f (record { made-ok = λ a h. h; made-text = same; part = λ a h. a; part-ok = λ a h. h; part-makes = λ a h. refl }))
