@@ -1,0 +1,25 @@
+-- `table_result` meets its contract: each case fills its fields.
+use borrow.Author.Needs.{needs}
+use Rattle.nitswolan.proofs.TableLaws.{table-given, table-refused}
+use Rattle.nitswolan.proofs.table.table_result.Statement.{statement}
+use Rattle.nitswolan.proofs.table.table_result.Tie as tie
+
+enum-known-answer : tie.Need-enum-known-answer
+enum-known-answer c = search needs
+
+enum-known-answer-2 : tie.Need-enum-known-answer-2
+enum-known-answer-2 c = search needs
+
+refusal-number-requires : tie.Need-refusal-number-requires
+refusal-number-requires c κs = search needs
+
+returns : tie.Need-returns
+returns c = table-given (c .before .answer .given .1)
+
+returns-2 : tie.Need-returns-2
+returns-2 c = table-refused (c .before .before .answer2 .given .1) (c .refusal-number .ensures)
+
+pub table-result-spec : {M : Type 1} → statement M
+table-result-spec =
+    tie.close
+    (tie.spec enum-known-answer enum-known-answer-2 refusal-number-requires returns returns-2)

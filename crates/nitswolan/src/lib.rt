@@ -1,0 +1,89 @@
+// The published C interface: every library entry under its plain name, over structs that C can read. The refusal of an answer is 0
+// where there is none; at a refusal every other field is 0, but for the line of 11.
+mod plan;
+mod sample;
+mod sheet;
+mod table;
+
+use crate::plan::plan_result;
+use crate::sample::sample_result;
+use crate::sheet::sheet_result;
+use crate::table::table_result;
+use motion::Machine;
+pub use plan::PlanResult;
+use planner::Move;
+use route_sheet::REPORT_BYTES;
+ghost use mathlib.Core.Path.{_≡_};
+ghost use Rattle.planner.specs.Outcome.{Plans};
+ghost use Rattle.motion.specs.Answer.{machineOf};
+ghost use Rattle.motion.specs.ForceRows.Table.{FillsForce};
+ghost use Rattle.motion.specs.Sampling.{Samples};
+ghost use Rattle.motion.specs.Tables.{FillsPositions, FillsReference};
+ghost use Rattle.route_sheet.specs.Answer.{ReadsSheet};
+ghost use Rattle.route_sheet.specs.Report.{Reports};
+ghost use Rattle.nitswolan.specs.Fields.{planFields, planOutcome, sampleFields, sampleOutcome, sheetFields, sheetHeld, tableFields, tableOutcome};
+pub use sample::SampleResult;
+pub use sheet::SheetResult;
+pub use table::TableResult;
+
+// Plans a move, or names the lowest refusal that applies.
+#[no_mangle]
+pub extern "C" fn nitswolan_plan_move(m: Move) -> PlanResult
+    ensures { λ r. ⌜ Plans (m .displacement) (m .velocity) (m .acceleration) (m .jerk) (m .snap) (planOutcome r) ⌝ }
+    ensures { λ r. ⌜ r ≡ planFields (planOutcome r) ⌝ }
+{
+    plan_result(planner::plan_move(m))
+}
+
+// The values of a move at sample k, from 0 to N.
+#[no_mangle]
+pub extern "C" fn nitswolan_sample_move(m: Move, k: u64) -> SampleResult
+    ensures { λ r. ⌜ Samples (m .displacement) (m .velocity) (m .acceleration) (m .jerk) (m .snap) k (sampleOutcome r) ⌝ }
+    ensures { λ r. ⌜ r ≡ sampleFields (sampleOutcome r) ⌝ }
+{
+    sample_result(motion::sample_move(m, k))
+}
+
+// Fills a table with the positions of a move at samples 0 to N, for the drive to play.
+#[no_mangle]
+pub extern "C" fn nitswolan_fill_positions(m: Move, table: &mut [i64]) -> TableResult
+    ensures { λ r. ⌜ FillsPositions (m .displacement) (m .velocity) (m .acceleration) (m .jerk) (m .snap) (now (table .entry)) (tableOutcome r) (now (table .exit)) ⌝ }
+    ensures { λ r. ⌜ r ≡ tableFields (tableOutcome r) ⌝ }
+{
+    table_result(motion::fill_positions(m, table))
+}
+
+// Fills a table with the reference rows of a move at samples 0 to N, for the feedback loop.
+#[no_mangle]
+pub extern "C" fn nitswolan_fill_reference(m: Move, table: &mut [i64]) -> TableResult
+    ensures { λ r. ⌜ FillsReference (m .displacement) (m .velocity) (m .acceleration) (m .jerk) (m .snap) (now (table .entry)) (tableOutcome r) (now (table .exit)) ⌝ }
+    ensures { λ r. ⌜ r ≡ tableFields (tableOutcome r) ⌝ }
+{
+    table_result(motion::fill_reference(m, table))
+}
+
+// Fills a table with the force rows of a move and a machine at rows 0 to N+1, for the drive's feedforward.
+#[no_mangle]
+pub extern "C" fn nitswolan_fill_force(m: Move, machine: Machine, table: &mut [f64]) -> TableResult
+    ensures { λ r. ⌜ FillsForce (m .displacement) (m .velocity) (m .acceleration) (m .jerk) (m .snap) (machineOf machine) (now (table .entry)) (tableOutcome r) (now (table .exit)) ⌝ }
+    ensures { λ r. ⌜ r ≡ tableFields (tableOutcome r) ⌝ }
+{
+    table_result(motion::fill_force(m, machine, table))
+}
+
+// Reads the text of a sheet, or names its refusal.
+#[no_mangle]
+pub extern "C" fn nitswolan_read_sheet(text: &[u8]) -> SheetResult
+    ensures { λ r. ⌜ ReadsSheet (now (text .entry)) (sheetHeld r) ⌝ }
+    ensures { λ r. ⌜ r ≡ sheetFields (sheetHeld r) ⌝ }
+{
+    sheet_result(route_sheet::read_sheet(text))
+}
+
+// Puts what `bottlerun` prints of a sheet's text at the start of `out`, and answers how many bytes that is.
+#[no_mangle]
+pub extern "C" fn nitswolan_report(text: &[u8], out: &mut [u8; REPORT_BYTES]) -> usize
+    ensures { λ r. ⌜ Reports (now (text .entry)) (now (out .entry)) r (now (out .exit)) ⌝ }
+{
+    route_sheet::report(text, out)
+}

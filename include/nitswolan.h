@@ -1,0 +1,157 @@
+/*
+ * nitswolan: moves of a sampling carriage, planned within bounds on velocity, acceleration, jerk and snap.
+ *
+ * Every function takes all numbers that can be sent to it, returns, uses no heap and keeps no state. An answer's `refusal` is 0 where
+ * there is none; at a refusal every other field is 0 (11 also gives its line) and no place of a table is written. Where several refusals
+ * apply the lowest is given, but 12 comes before 11. A call may run beside another as long as their tables are different.
+ *
+ * A table or a text of length 0 may be NULL; any other pointer is valid for its length and aligned as its type asks. A call takes at most
+ * 512 bytes of stack for a move and 24 KiB for a sheet, besides its answer. From the C library only memcpy, memmove and memset are used.
+ *
+ * A unit is 2^-40 of a count (a "grain"). N is the number of samples that a move takes: it is at rest at sample 0 and at sample N.
+ */
+#ifndef NITSWOLAN_H
+#define NITSWOLAN_H
+
+#include <stddef.h>
+#include <stdint.h>
+
+#ifdef __cplusplus
+extern "C" {
+#endif
+
+/* Units in a count. */
+#define NITSWOLAN_UNITS_PER_COUNT INT64_C(1099511627776)
+
+/* The most samples that a move may take, and the places of a table that is long enough for every move. */
+#define NITSWOLAN_MOST_SAMPLES 4096
+#define NITSWOLAN_MOST_POSITIONS (NITSWOLAN_MOST_SAMPLES + 1)
+#define NITSWOLAN_MOST_FORCES (NITSWOLAN_MOST_SAMPLES + 2)
+
+/* The most sets and moves that a sheet lists, and the bytes of a report. */
+#define NITSWOLAN_MOST_SETS 16
+#define NITSWOLAN_MOST_MOVES 256
+#define NITSWOLAN_REPORT_BYTES 32768
+
+/* Refusals. */
+enum {
+  NITSWOLAN_NO_DISPLACEMENT = 1,    /* the displacement is 0 */
+  NITSWOLAN_DISPLACEMENT_RANGE = 2, /* the displacement is beyond +-1,048,576 counts */
+  NITSWOLAN_VELOCITY_RANGE = 3,     /* the bound on velocity is not in 1 to 2^50; likewise the next three */
+  NITSWOLAN_ACCELERATION_RANGE = 4,
+  NITSWOLAN_JERK_RANGE = 5,
+  NITSWOLAN_SNAP_RANGE = 6,
+  NITSWOLAN_TOO_MANY_SAMPLES = 7, /* N is above 4,096 */
+  NITSWOLAN_SHORT_TABLE = 8,      /* the table has fewer than N+1 places, or N+2 for forces */
+  NITSWOLAN_PAST_END = 9,         /* the sample asked for is above N */
+  NITSWOLAN_MACHINE_RANGE = 10,   /* a number of the machine is not finite or out of its range */
+  NITSWOLAN_SHEET_MALFORMED = 11, /* the sheet is malformed; `line` says where */
+  NITSWOLAN_SHEET_TOO_LONG = 12   /* the sheet has more than 65,535 bytes */
+};
+
+/* A move: the displacement in counts, and the bounds on the size of velocity, acceleration, jerk and snap in units per sample, per
+ * sample squared, cubed and to the fourth. */
+typedef struct {
+  int64_t displacement;
+  uint64_t velocity;
+  uint64_t acceleration;
+  uint64_t jerk;
+  uint64_t snap;
+} nitswolan_move;
+
+/* A machine of two masses: masses m1 and m2, dampings k1, k2 and k12, each 0 to 2^20, and the stiffness c, 2^-20 to 2^20; time is in
+ * samples. The drive is rigid if k12 is 0. */
+typedef struct {
+  double m1;
+  double m2;
+  double k1;
+  double k2;
+  double k12;
+  double c;
+} nitswolan_machine;
+
+/* A plan: N, the intervals a, b, c and e (they sum to N), the size of the snap, and the shortfall in units. */
+typedef struct {
+  uint64_t refusal;
+  uint64_t samples;
+  uint64_t a;
+  uint64_t b;
+  uint64_t c;
+  uint64_t e;
+  uint64_t snap;
+  uint64_t shortfall;
+} nitswolan_plan_result;
+
+/* The values at a sample in units, and the position to the nearest count, halves away from 0. */
+typedef struct {
+  uint64_t refusal;
+  int64_t snap;
+  int64_t jerk;
+  int64_t acceleration;
+  int64_t velocity;
+  int64_t position;
+  int64_t count;
+} nitswolan_sample_result;
+
+/* How many rows were written, from place 0 on. Every later place keeps what it held. */
+typedef struct {
+  uint64_t refusal;
+  uint64_t rows;
+} nitswolan_table_result;
+
+/* The bounds of a set, as in a move. */
+typedef struct {
+  uint64_t velocity;
+  uint64_t acceleration;
+  uint64_t jerk;
+  uint64_t snap;
+} nitswolan_bound_set;
+
+/* A move of a sheet: the displacement in counts, and the number of its set, from 1. */
+typedef struct {
+  int64_t displacement;
+  uint64_t set;
+} nitswolan_route_move;
+
+/* What a sheet lists. Places that no set and no move takes hold zeros. */
+typedef struct {
+  uint64_t refusal;
+  uint64_t line;
+  uint64_t set_count;
+  uint64_t move_count;
+  nitswolan_bound_set sets[NITSWOLAN_MOST_SETS];
+  nitswolan_route_move moves[NITSWOLAN_MOST_MOVES];
+} nitswolan_sheet_result;
+
+/* Room for every report. */
+typedef struct {
+  uint8_t bytes[NITSWOLAN_REPORT_BYTES];
+} nitswolan_report_buffer;
+
+/* Plans a move. Refusals 1 to 7. */
+nitswolan_plan_result nitswolan_plan_move(nitswolan_move move);
+
+/* The values of a move at a sample from 0 to N. Refusals 1 to 7 and 9. */
+nitswolan_sample_result nitswolan_sample_move(nitswolan_move move, uint64_t sample);
+
+/* Fills a table with the positions of a move at samples 0 to N, in units. `places` says how many the table has. Refusals 1 to 8. */
+nitswolan_table_result nitswolan_fill_positions(nitswolan_move move, int64_t *table, size_t places);
+
+/* Fills a table with the reference rows of a move at samples 0 to N, for the feedback loop. Refusals 1 to 8. */
+nitswolan_table_result nitswolan_fill_reference(nitswolan_move move, int64_t *table, size_t places);
+
+/* Fills a table with the feedforward forces of a move on a machine, rows 0 to N+1. Refusals 1 to 8 and 10. */
+nitswolan_table_result nitswolan_fill_force(nitswolan_move move, nitswolan_machine machine, double *table, size_t places);
+
+/* Reads the text of a route sheet. Refusals 11 and 12. */
+nitswolan_sheet_result nitswolan_read_sheet(const uint8_t *text, size_t length);
+
+/* Writes what `bottlerun` prints of a sheet's text, one line a move or the line of its refusal, and answers how many bytes that is; no
+ * zero byte follows them. Every later byte keeps what it held. The text may not lie within the buffer. */
+size_t nitswolan_report(const uint8_t *text, size_t length, nitswolan_report_buffer *report);
+
+#ifdef __cplusplus
+}
+#endif
+
+#endif

@@ -1,0 +1,64 @@
+/* Where the library writes each field of a sheet. */
+#include "checks.h"
+#include "raw_entries.h"
+#include "written.h"
+
+static void read_twice(areas *both, const char *text) {
+  clear_areas(both);
+  nitswolan_read_sheet(both->first + GUARD / 8, (const uint8_t *)text, strlen(text));
+  nitswolan_read_sheet(both->second + GUARD / 8, (const uint8_t *)text, strlen(text));
+}
+
+/* A sheet with every set and every move, each number different from its neighbours. */
+static void full_sheet(char *text) {
+  text += sprintf(text, "%d\n", MOST_SETS);
+  for (int k = 0; k < MOST_SETS; k++) {
+    text += sprintf(text, "%d %d %d %d\n", 1000 + k, 2000 + k, 3000 + k, 4000 + k);
+  }
+  text += sprintf(text, "%d\n", MOST_MOVES);
+  for (int k = 0; k < MOST_MOVES; k++) {
+    text += sprintf(text, "-%d %d\n", 5000 + k, 1 + k % MOST_SETS);
+  }
+}
+
+static void check_listed(checks *tally, const areas *both) {
+  check(tally, "sheet.refusal", word(both, SHEET_REFUSAL), 0);
+  check(tally, "sheet.line", word(both, SHEET_LINE), 0);
+  check(tally, "sheet.set_count", word(both, SHEET_SET_COUNT), MOST_SETS);
+  check(tally, "sheet.move_count", word(both, SHEET_MOVE_COUNT), MOST_MOVES);
+  for (size_t k = 0; k < MOST_SETS; k++) {
+    const size_t set = SHEET_SETS + k * SET_SIZE;
+    check(tally, "set.velocity", word(both, set + SET_VELOCITY), 1000 + k);
+    check(tally, "set.acceleration", word(both, set + SET_ACCELERATION), 2000 + k);
+    check(tally, "set.jerk", word(both, set + SET_JERK), 3000 + k);
+    check(tally, "set.snap", word(both, set + SET_SNAP), 4000 + k);
+  }
+  for (size_t k = 0; k < MOST_MOVES; k++) {
+    const size_t move = SHEET_MOVES + k * ROUTE_SIZE;
+    check(tally, "move.displacement", word(both, move + ROUTE_DISPLACEMENT), (uint64_t)(-5000 - (int64_t)k));
+    check(tally, "move.set", word(both, move + ROUTE_SET), 1 + k % MOST_SETS);
+  }
+}
+
+static void check_sheet_refusal(checks *tally, areas *both, char *text) {
+  uint64_t others = 0;
+  text[strlen(text) - 1] = 'x';
+  read_twice(both, text);
+  check_extent(tally, "bytes of a refused sheet", both, SHEET_SIZE);
+  check(tally, "sheet.refusal", word(both, SHEET_REFUSAL), 11);
+  check(tally, "sheet.line", word(both, SHEET_LINE), 274);
+  for (size_t k = SHEET_SET_COUNT; k < SHEET_SIZE; k += 8) {
+    others |= word(both, k);
+  }
+  check(tally, "the rest of a refused sheet", others, 0);
+}
+
+void check_sheets(checks *tally) {
+  areas both;
+  char text[8192];
+  full_sheet(text);
+  read_twice(&both, text);
+  check_extent(tally, "bytes of a sheet", &both, SHEET_SIZE);
+  check_listed(tally, &both);
+  check_sheet_refusal(tally, &both, text);
+}

@@ -1,0 +1,44 @@
+/* The library's functions as machine code sees them, with no struct of the header: an argument by value is so many 8-byte words, and an
+ * answer above 16 bytes is written where a hidden first argument points, which the function also returns. That is the calling
+ * convention of x86-64 System V, for which the archive is built. */
+#ifndef RAW_ENTRIES_H
+#define RAW_ENTRIES_H
+
+#ifndef __x86_64__
+#error "the raw calls below are those of x86-64 System V"
+#endif
+
+#include "layout_table.h"
+#include <stddef.h>
+#include <stdint.h>
+
+typedef struct {
+  uint64_t words[MOVE_SIZE / 8];
+} raw_move;
+
+typedef struct {
+  double words[MACHINE_SIZE / 8];
+} raw_machine;
+
+typedef struct {
+  uint64_t words[TABLE_SIZE / 8];
+} raw_table_result;
+
+void *nitswolan_plan_move(void *answer, raw_move move);
+void *nitswolan_sample_move(void *answer, raw_move move, uint64_t sample);
+raw_table_result nitswolan_fill_positions(raw_move move, int64_t *table, size_t places);
+raw_table_result nitswolan_fill_reference(raw_move move, int64_t *table, size_t places);
+raw_table_result nitswolan_fill_force(raw_move move, raw_machine machine, double *table, size_t places);
+void *nitswolan_read_sheet(void *answer, const uint8_t *text, size_t length);
+size_t nitswolan_report(const uint8_t *text, size_t length, uint8_t *report);
+
+/* 2^40, the units in a count. */
+#define G (UINT64_C(1) << 40)
+
+/* The first move to check by: 8 counts in 8 samples, with snap G. */
+static inline raw_move first_move(void) {
+  raw_move move = {{8, 2 * G, G, G, G}};
+  return move;
+}
+
+#endif

@@ -1,0 +1,85 @@
+/* How much stack the entries take, with their arguments but without their answers: each is called in a thread on a stack of known bytes.
+ * Exits 1 if one takes more than the header says. */
+#define _POSIX_C_SOURCE 200809L
+#include "raw_entries.h"
+
+#include <pthread.h>
+#include <stdio.h>
+#include <stdlib.h>
+#include <string.h>
+
+enum { STACK = 1 << 18, UNTOUCHED = 0xA5, FOR_A_MOVE = 512, FOR_A_SHEET = 24 * 1024 };
+
+/* What the thread is to call, and the address from which its stack is measured. */
+typedef struct {
+  int entry;
+  const char *text;
+  const unsigned char *frame;
+  uint64_t answer[SHEET_SIZE / 8];
+  int64_t positions[4097];
+  double forces[4098];
+  uint8_t report[REPORT_SIZE];
+} work;
+
+static void *call(void *given) {
+  work *todo = given;
+  const raw_move move = {{4092, G, G, G, G}};
+  const raw_machine machine = {{1, 1, 1, 1, 1, 1}};
+  const uint8_t *text = (const uint8_t *)todo->text;
+  todo->frame = __builtin_frame_address(0);
+  switch (todo->entry) {
+  case 0: return nitswolan_plan_move(todo->answer, move);
+  case 1: return nitswolan_sample_move(todo->answer, move, 4096);
+  case 2: todo->answer[0] = nitswolan_fill_positions(move, todo->positions, 4097).words[0]; break;
+  case 3: todo->answer[0] = nitswolan_fill_reference(move, todo->positions, 4097).words[0]; break;
+  case 4: todo->answer[0] = nitswolan_fill_force(move, machine, todo->forces, 4098).words[0]; break;
+  case 5: return nitswolan_read_sheet(todo->answer, text, strlen(todo->text));
+  default: todo->answer[0] = nitswolan_report(text, strlen(todo->text), todo->report);
+  }
+  return NULL;
+}
+
+/* The bytes of stack below the caller's frame, or 0 if no thread could be had. */
+static size_t stack_of(work *todo, unsigned char *stack) {
+  pthread_attr_t attributes;
+  pthread_t thread;
+  size_t untouched = 0;
+  memset(stack, UNTOUCHED, STACK);
+  if (pthread_attr_init(&attributes) != 0 || pthread_attr_setstack(&attributes, stack, STACK) != 0 ||
+      pthread_create(&thread, &attributes, call, todo) != 0 || pthread_join(thread, NULL) != 0) {
+    return 0;
+  }
+  pthread_attr_destroy(&attributes);
+  while (stack[untouched] == UNTOUCHED) {
+    untouched++;
+  }
+  return (size_t)(todo->frame - (stack + untouched));
+}
+
+/* The most that the entries from `first` up to `end` take, or the whole stack if one could not be measured. */
+static size_t most_of(work *todo, unsigned char *stack, int first, int end) {
+  size_t most = 0;
+  for (todo->entry = first; todo->entry < end; todo->entry++) {
+    call(todo); /* so that no name is bound late, on the measured stack */
+    const size_t taken = stack_of(todo, stack);
+    if (taken == 0) {
+      return STACK;
+    }
+    most = taken > most ? taken : most;
+  }
+  return most;
+}
+
+int main(void) {
+  static work todo;
+  void *stack = NULL;
+  if (posix_memalign(&stack, 4096, STACK) != 0) {
+    return 1;
+  }
+  todo.text = "1\n1099511627776 1099511627776 1099511627776 1099511627776\n2\n-9223372036854775807 1\n-4092 1\n";
+  const size_t move = most_of(&todo, stack, 0, 5);
+  const size_t sheet = most_of(&todo, stack, 5, 7);
+  printf("stack: %zu bytes for a move, at most %d; %zu for a sheet, at most %d\n", move, FOR_A_MOVE, sheet, FOR_A_SHEET);
+  free(stack);
+  return move > FOR_A_MOVE || sheet > FOR_A_SHEET;
+}
