@@ -1,10 +1,8 @@
-//! A second implementation of the motion planner, of the profiles it leads to,
-//! of the forces made from them and of the route sheet, written from the paper's
-//! rules alone.
+//! A second implementation of the paper's rules: the planner, the profiles, the
+//! forces and the route sheet.
 //!
-//! It exists to be compared with: plain rules, nothing shared with the program
-//! under comparison. The command `vectors` writes and checks the stored test
-//! vectors made from it.
+//! It exists to be compared with and shares no code with the program. The command
+//! `vectors` writes and checks the stored test vectors made from it.
 
 pub mod force;
 pub mod least;

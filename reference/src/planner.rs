@@ -3,20 +3,22 @@
 mod deciders;
 mod intervals;
 mod moves;
+mod narrow;
 
 pub use deciders::{deciding_lower_limits, deciding_searches};
 pub use intervals::{Intervals, Searches, SEARCH_COUNT};
-pub use moves::{Move, COUNT_GRAINS, LARGEST_BOUND, LARGEST_DISPLACEMENT};
+pub use moves::{Move, LARGEST_BOUND, LARGEST_DISPLACEMENT, UNITS_PER_COUNT};
+pub use narrow::plan_narrow;
 
 /// The most samples a move may take (N in the paper, row 7).
-pub const LARGEST_DURATION: u128 = 4096;
+pub const MOST_SAMPLES: u128 = 4096;
 
 /// What the planner says about a move.
 #[derive(Clone, Copy, Debug, PartialEq, Eq)]
 pub enum Answer {
     /// The number of the refusal, 1 to 7.
     Refused(u8),
-    /// The four intervals, the size of the snap (D) and the shortfall in grains.
+    /// The four intervals, the size of the snap (D) and the shortfall in units.
     Planned {
         a: u64,
         b: u64,
@@ -29,7 +31,7 @@ pub enum Answer {
 
 impl Answer {
     /// The number of samples (N), for a planned move.
-    pub fn duration(&self) -> Option<u64> {
+    pub fn samples(&self) -> Option<u64> {
         match *self {
             Answer::Refused(_) => None,
             Answer::Planned { a, b, c, e, .. } => Some(a + b + c + e),
@@ -37,16 +39,16 @@ impl Answer {
     }
 
     /// The durations p, q, r and s, for a planned move.
-    pub fn phases(&self) -> Option<[u64; 4]> {
+    pub fn durations(&self) -> Option<[u64; 4]> {
         match *self {
             Answer::Refused(_) => None,
-            Answer::Planned { a, b, c, e, .. } => Some(phases([a, b, c, e])),
+            Answer::Planned { a, b, c, e, .. } => Some(durations([a, b, c, e])),
         }
     }
 }
 
 /// The durations p, q, r and s of the intervals a, b, c and e.
-pub fn phases([a, b, c, e]: [u64; 4]) -> [u64; 4] {
+pub fn durations([a, b, c, e]: [u64; 4]) -> [u64; 4] {
     [a, b - a, c - a - b, e - a - b - c]
 }
 
@@ -54,7 +56,7 @@ pub fn phases([a, b, c, e]: [u64; 4]) -> [u64; 4] {
 pub fn plan(motion: &Move) -> Answer {
     match Intervals::of(motion) {
         Err(number) => Answer::Refused(number),
-        Ok(found) if found.duration() > LARGEST_DURATION => Answer::Refused(7),
+        Ok(found) if found.samples() > MOST_SAMPLES => Answer::Refused(7),
         Ok(found) => planned(motion.w(), &found),
     }
 }

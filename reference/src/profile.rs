@@ -15,7 +15,7 @@ pub use sample::{sample, Sample, SampleAnswer};
 pub use segments::{Segment, SEGMENT_COUNT};
 pub use state::State;
 
-use crate::planner::{phases, plan, Answer, Move};
+use crate::planner::{durations, plan, Answer, Move};
 use std::iter;
 
 /// What a table entry says.
@@ -32,7 +32,7 @@ pub enum TableAnswer {
 pub struct Profile {
     pub segments: [Segment; SEGMENT_COUNT],
     /// The number of the last sample (N in the paper).
-    pub duration: u64,
+    pub samples: u64,
 }
 
 impl Profile {
@@ -48,8 +48,8 @@ impl Profile {
         // changes sign; all of them are sums of snaps.
         let snap = size as i64 * motion.displacement.signum();
         Ok(Profile {
-            segments: segments::segments(phases(intervals), snap),
-            duration: intervals.iter().sum(),
+            segments: segments::segments(durations(intervals), snap),
+            samples: intervals.iter().sum(),
         })
     }
 
@@ -57,14 +57,14 @@ impl Profile {
     /// many places, or the refusal, 1 to 8.
     pub(crate) fn fitting(motion: &Move, places: usize, more: u64) -> Result<Profile, u8> {
         let profile = Profile::of(motion)?;
-        if (places as u64) < profile.duration + more {
+        if (places as u64) < profile.samples + more {
             return Err(8);
         }
         Ok(profile)
     }
 
     /// The snap and the state at each sample from 0 to N.
-    pub fn samples(&self) -> impl Iterator<Item = (i64, State)> + '_ {
+    pub fn states(&self) -> impl Iterator<Item = (i64, State)> + '_ {
         let in_segment = |segment: &Segment| iter::repeat_n(segment.snap, segment.samples);
         // The segments end at sample N-1; at N the snap is 0.
         let snaps = self.segments.iter().flat_map(in_segment).chain([0]);

@@ -5,7 +5,7 @@ pub mod force;
 pub mod motion;
 pub mod planner;
 pub mod sheet;
-mod splitmix;
+pub mod splitmix;
 mod store;
 mod table_text;
 
@@ -64,7 +64,7 @@ pub fn run(action: &str, kind: &str, dir: &Path) -> Result<(), Failure> {
 }
 
 /// A list of requests that draws on random numbers.
-type Drawn<T> = fn(&mut SplitMix64) -> Vec<T>;
+pub type Drawn<T> = fn(&mut SplitMix64) -> Vec<T>;
 
 /// The first list and then the drawn ones, none twice; always the same ones for
 /// a seed. Any seed would do: the coverage check says whether it is good enough.

@@ -11,7 +11,7 @@ fn missing_where(moves: Vec<Move>, keep: impl Fn(&Move) -> bool) -> Vec<String> 
 
 #[test]
 fn an_empty_list_meets_no_condition() {
-    // 2 counts, 10 searches, 3 lower limits, 7 refusals, 2 durations, 2 signs,
+    // 2 counts, 10 searches, 3 lower limits, 7 refusals, 2 limits of N, 2 signs,
     // 4 times 5 edges of bounds and 9 of the displacement.
     assert_eq!(missing(&[]).len(), 2 + 10 + 3 + 7 + 2 + 2 + 20 + 9);
 }
@@ -42,7 +42,7 @@ fn planned_moves_are_needed() {
 }
 
 #[test]
-fn the_longest_duration_is_needed() {
-    let missing = missing_where(moves(), |motion| plan(motion).duration() != Some(4096));
+fn a_move_of_the_most_samples_is_needed() {
+    let missing = missing_where(moves(), |motion| plan(motion).samples() != Some(4096));
     assert_eq!(missing, ["N = 4096 is planned"]);
 }

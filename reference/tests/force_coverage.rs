@@ -11,8 +11,8 @@ fn missing_where(keep: impl Fn(&Request) -> bool) -> Vec<String> {
     missing(&kept)
 }
 
-fn duration(request: &Request) -> Option<u64> {
-    plan(&request.motion).duration()
+fn samples(request: &Request) -> Option<u64> {
+    plan(&request.motion).samples()
 }
 
 fn contains_all(missing: &[String], names: &[&str]) {
@@ -54,7 +54,7 @@ fn every_refusal_of_a_move_is_needed() {
 
 #[test]
 fn every_short_table_is_needed() {
-    let missing = missing_where(|request| duration(request).is_none_or(|n| request.n != n + 1));
+    let missing = missing_where(|request| samples(request).is_none_or(|n| request.n != n + 1));
     let names = [
         "N+1 places on a good machine",
         "N+1 places on a wrong machine",
@@ -112,7 +112,7 @@ fn both_directions_are_needed() {
 
 #[test]
 fn the_longest_moves_are_needed() {
-    let missing = missing_where(|request| duration(request) != Some(4096));
+    let missing = missing_where(|request| samples(request) != Some(4096));
     contains_all(
         &missing,
         &[

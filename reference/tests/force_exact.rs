@@ -45,7 +45,7 @@ fn coefficients([m1, m2, k1, k2, k12, c]: [i128; 6]) -> Option<[i128; 4]> {
 
 /// Twice u at rows 0 to N+1.
 fn twice_u(profile: &Profile, q: [i128; 4]) -> Option<Vec<i128>> {
-    let samples = profile.samples();
+    let samples = profile.states();
     let list: Vec<[i128; 4]> = samples
         .map(|(d, at)| [d, at.jerk, at.acceleration, at.velocity].map(i128::from))
         .collect();

@@ -13,7 +13,7 @@ type Values = [i64; 4];
 fn samples(motion: &Move) -> Option<Vec<Values>> {
     let profile = Profile::of(motion).ok()?;
     let values = profile
-        .samples()
+        .states()
         .map(|(snap, at)| [snap, at.jerk, at.acceleration, at.velocity]);
     Some(values.collect())
 }

@@ -27,14 +27,16 @@ fn numbers(answer: &Answer) -> ([u128; 4], u128, u128) {
 }
 
 #[test]
-fn the_duration_is_the_sum_of_the_intervals_and_of_the_phases() {
+fn the_samples_are_the_sum_of_the_intervals_and_of_the_durations() {
     for (motion, answer) in planned() {
         let ([a, b, c, e], _, _) = numbers(&answer);
-        let phases = answer.phases().map(|phases| phases.map(u128::from));
-        let Some([p, q, r, s]) = phases else {
-            panic!("no phases for {motion:?}");
+        let durations = answer
+            .durations()
+            .map(|durations| durations.map(u128::from));
+        let Some([p, q, r, s]) = durations else {
+            panic!("no durations for {motion:?}");
         };
-        let n = answer.duration().map(u128::from);
+        let n = answer.samples().map(u128::from);
         assert_eq!(n, Some(a + b + c + e));
         assert_eq!(n, Some(8 * p + 4 * q + 2 * r + s));
         assert!(a + b + c + e <= 4096);
@@ -67,7 +69,7 @@ fn the_bounds_are_kept() {
 fn a_refusal_7_has_more_than_4096_samples() {
     for motion in moves() {
         if plan(&motion) == Answer::Refused(7) {
-            assert!(Intervals::of(&motion).is_ok_and(|found| found.duration() > 4096));
+            assert!(Intervals::of(&motion).is_ok_and(|found| found.samples() > 4096));
         }
     }
 }

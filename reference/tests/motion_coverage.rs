@@ -9,8 +9,8 @@ fn missing_where(keep: impl Fn(&Request) -> bool) -> Vec<String> {
     missing(&kept)
 }
 
-fn duration(request: &Request) -> Option<u64> {
-    plan(&request.motion).duration()
+fn samples(request: &Request) -> Option<u64> {
+    plan(&request.motion).samples()
 }
 
 #[test]
@@ -44,12 +44,12 @@ fn every_refusal_is_needed() {
 #[test]
 fn every_length_is_needed() {
     for more in [1, 2, 7] {
-        let other = |request: &Request| duration(request).is_none_or(|n| request.n != n + more);
+        let other = |request: &Request| samples(request).is_none_or(|n| request.n != n + more);
         let missing = missing_where(|request| request.kind == Kind::Samples || other(request));
         assert!(missing.contains(&format!("Positions of N+{more} places")));
         assert!(missing.contains(&format!("References of N+{more} places")));
     }
-    let missing = missing_where(|request| duration(request) != Some(request.n));
+    let missing = missing_where(|request| samples(request) != Some(request.n));
     assert_eq!(missing, ["Positions of N places", "References of N places"]);
 }
 
@@ -70,14 +70,14 @@ fn both_directions_are_needed() {
 
 #[test]
 fn long_moves_are_needed() {
-    let missing = missing_where(|request| duration(request) != Some(4096));
+    let missing = missing_where(|request| samples(request) != Some(4096));
     assert!(missing.contains(&"borders of p with N from 4096 to 4096".to_string()));
     assert!(missing.contains(&"borders of p q r s with N from 4096 to 4096".to_string()));
 }
 
 #[test]
 fn the_sample_before_a_border_is_needed() {
-    let kept = |request: &Request| duration(request).is_none_or(|n| request.n != n - 1);
+    let kept = |request: &Request| samples(request).is_none_or(|n| request.n != n - 1);
     let missing = missing_where(kept);
     assert!(missing.contains(&"borders of p with N from 4096 to 4096".to_string()));
 }

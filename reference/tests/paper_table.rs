@@ -14,15 +14,15 @@ struct Row {
 
 /// The durations p q r s, then N, D and the shortfall.
 struct Plan {
-    phases: [u64; 4],
+    durations: [u64; 4],
     n: u64,
     d: u64,
     shortfall: u64,
 }
 
-fn row(x: i64, v: u64, a: u64, phases: [u64; 4], n: u64, d: u64, shortfall: u64) -> Row {
+fn row(x: i64, v: u64, a: u64, durations: [u64; 4], n: u64, d: u64, shortfall: u64) -> Row {
     let plan = Some(Plan {
-        phases,
+        durations,
         n,
         d,
         shortfall,
@@ -60,8 +60,8 @@ fn check(row: &Row, x: i64) {
         assert_eq!(answer, Answer::Refused(7));
         return;
     };
-    assert_eq!(answer.phases(), Some(expected.phases));
-    assert_eq!(answer.duration(), Some(expected.n));
+    assert_eq!(answer.durations(), Some(expected.durations));
+    assert_eq!(answer.samples(), Some(expected.n));
     let Answer::Planned {
         snap, shortfall, ..
     } = answer

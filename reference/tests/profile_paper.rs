@@ -50,9 +50,9 @@ fn the_tables_hold_the_same_list() {
     }
 }
 
-/// With p = 2, q = 3, r = 5 and s = 7 no two stretches can be mistaken.
+/// With p = 2, q = 3, r = 5 and s = 7 no two segments can be mistaken.
 #[test]
-fn the_fifteen_stretches() {
+fn the_fifteen_segments() {
     let motion = Move {
         displacement: -2 * 5 * 12 * 26,
         velocity: 2 * 5 * 12 * G as u64,
@@ -65,5 +65,5 @@ fn the_fifteen_stretches() {
     assert_eq!(samples, [2, 3, 2, 5, 2, 3, 2, 7, 2, 3, 2, 5, 2, 3, 2]);
     let signs = profile.segments.map(|segment| segment.snap / G);
     assert_eq!(signs, [-1, 0, 1, 0, 1, 0, -1, 0, 1, 0, -1, 0, -1, 0, 1]);
-    assert_eq!(profile.duration, 2 + 5 + 12 + 26);
+    assert_eq!(profile.samples, 2 + 5 + 12 + 26);
 }

@@ -62,15 +62,15 @@ fn the_displacement_at_its_edges() {
 }
 
 #[test]
-fn the_longest_duration() {
+fn the_most_samples() {
     for sign in [1, -1] {
         let longest = plan(&Move::new(sign * 4092, [G; 4]));
-        assert_eq!(longest.duration(), Some(4096));
+        assert_eq!(longest.samples(), Some(4096));
         assert_eq!(refusal(sign * 4093, [G; 4]), Some(7));
     }
-    // Here every property holds with equality at the longest duration.
+    // Here every property holds with equality at 4096 samples.
     let slowest = [1 << 29, 1 << 19, 1 << 10, 2];
-    assert_eq!(plan(&Move::new(1, slowest)).duration(), Some(4096));
+    assert_eq!(plan(&Move::new(1, slowest)).samples(), Some(4096));
     for place in 0..4 {
         let mut bounds = slowest;
         bounds[place] -= 1;

@@ -8,9 +8,9 @@ const HALF: i64 = 1 << 39;
 /// Says by its definition whether a count is the rounded position: no further
 /// than half a count away, and at exactly half the one further from zero.
 fn is_nearest(position: i64, count: i64) -> bool {
-    let (position, grains) = (i128::from(position), i128::from(count) * i128::from(G));
-    let twice = 2 * (position - grains).abs();
-    twice < i128::from(G) || twice == i128::from(G) && grains.abs() > position.abs()
+    let (position, units) = (i128::from(position), i128::from(count) * i128::from(G));
+    let twice = 2 * (position - units).abs();
+    twice < i128::from(G) || twice == i128::from(G) && units.abs() > position.abs()
 }
 
 fn check(position: i64) {

@@ -7,9 +7,9 @@ use reference::profile::{
 };
 use reference::vectors::planner::moves;
 
-/// The last sample of each stretch is found by adding up from the first.
+/// The last sample of each segment is found by adding up from the first.
 fn snap_at(k: u64, [p, q, r, s]: [u64; 4], size: i128) -> i128 {
-    let stretches = [
+    let segments = [
         (p, size),
         (q, 0),
         (p, -size),
@@ -27,7 +27,7 @@ fn snap_at(k: u64, [p, q, r, s]: [u64; 4], size: i128) -> i128 {
         (p, -size),
     ];
     let mut end = 0;
-    for (samples, snap) in stretches {
+    for (samples, snap) in segments {
         end += samples;
         if k < end {
             return snap;
@@ -39,14 +39,14 @@ fn snap_at(k: u64, [p, q, r, s]: [u64; 4], size: i128) -> i128 {
 /// Snap, jerk, acceleration, velocity and position at samples 0 to N.
 fn profile(motion: &Move) -> Option<Vec<[i128; 5]>> {
     let answer = plan(motion);
-    let (Answer::Planned { snap, .. }, Some(phases)) = (answer, answer.phases()) else {
+    let (Answer::Planned { snap, .. }, Some(durations)) = (answer, answer.durations()) else {
         return None;
     };
     let direction = i128::from(motion.displacement.signum());
-    let n = answer.duration()?;
+    let n = answer.samples()?;
     let mut list: Vec<[i128; 5]> = Vec::new();
     for k in 0..=n {
-        let snap = direction * snap_at(k, phases, snap.into());
+        let snap = direction * snap_at(k, durations, snap.into());
         list.push(match list.last() {
             None => [snap, 0, 0, 0, 0],
             Some([d, j, a, v, x]) => [snap, j + d, a + j, v + a, x + v],

@@ -33,7 +33,7 @@ pub fn force_table(motion: &Move, machine: &Machine, table: &mut [f64]) -> Table
             });
         }
     }
-    TableAnswer::Written(profile.duration + MORE_ROWS)
+    TableAnswer::Written(profile.samples + MORE_ROWS)
 }
 
 /// The profile and the machine as it is read, or the lowest refusal.

@@ -80,7 +80,7 @@ impl Intervals {
     }
 
     /// The number of samples (N in the paper).
-    pub fn duration(&self) -> u128 {
+    pub fn samples(&self) -> u128 {
         self.a + self.b + self.c + self.e
     }
 }

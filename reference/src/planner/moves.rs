@@ -1,7 +1,7 @@
 //! A move as it is sent, and the refusals that need no planning.
 
-/// Grains in one count (G in the paper).
-pub const COUNT_GRAINS: u128 = 1 << 40;
+/// Units in one count (the paper's grains, G).
+pub const UNITS_PER_COUNT: u128 = 1 << 40;
 
 /// The largest size of a displacement in counts (row 2).
 pub const LARGEST_DISPLACEMENT: u64 = 1_048_576;
@@ -9,7 +9,8 @@ pub const LARGEST_DISPLACEMENT: u64 = 1_048_576;
 /// The largest value of each of the four bounds (rows 3 to 6).
 pub const LARGEST_BOUND: u64 = 1 << 50;
 
-/// The displacement X in counts and the bounds V, A, J and S in grains.
+/// The displacement X in counts and the bounds V, A, J and S in units of 1/G
+/// count.
 #[derive(Clone, Copy, Debug, PartialEq, Eq, Hash)]
 pub struct Move {
     pub displacement: i64,
@@ -36,9 +37,9 @@ impl Move {
         [self.velocity, self.acceleration, self.jerk, self.snap]
     }
 
-    /// The way in grains (W in the paper): G times the size of X.
+    /// The way in units (W in the paper): G times the size of X.
     pub fn w(&self) -> u128 {
-        COUNT_GRAINS * u128::from(self.displacement.unsigned_abs())
+        UNITS_PER_COUNT * u128::from(self.displacement.unsigned_abs())
     }
 
     /// The first of the refusals 1 to 6 that applies.

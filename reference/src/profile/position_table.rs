@@ -11,7 +11,7 @@ pub fn position_table(motion: &Move, table: &mut [i64]) -> TableAnswer {
         Err(number) => return TableAnswer::Refused(number),
     };
     fill(&profile, table);
-    TableAnswer::Written(profile.duration + 1)
+    TableAnswer::Written(profile.samples + 1)
 }
 
 /// Fills the table one segment after the other, four additions a sample.

@@ -11,8 +11,8 @@ pub fn reference_table(motion: &Move, table: &mut [i64]) -> TableAnswer {
         Err(number) => return TableAnswer::Refused(number),
     };
     // Undelayed: row k holds the position at sample k itself.
-    for (row, (_, state)) in table.iter_mut().zip(profile.samples()) {
+    for (row, (_, state)) in table.iter_mut().zip(profile.states()) {
         *row = state.position;
     }
-    TableAnswer::Written(profile.duration + 1)
+    TableAnswer::Written(profile.samples + 1)
 }

@@ -11,7 +11,7 @@ pub enum SampleAnswer {
     Sampled(Sample),
 }
 
-/// The five values in grains, and the position in counts.
+/// The five values in units, and the position in counts.
 #[derive(Clone, Copy, Debug, PartialEq, Eq)]
 pub struct Sample {
     pub snap: i64,
@@ -38,11 +38,11 @@ impl Sample {
 /// The values at sample k, summed from rest, or the lowest refusal that applies.
 pub fn sample(motion: &Move, k: u64) -> SampleAnswer {
     let profile = match Profile::of(motion) {
-        Ok(profile) if k <= profile.duration => profile,
+        Ok(profile) if k <= profile.samples => profile,
         Ok(_) => return SampleAnswer::Refused(9),
         Err(number) => return SampleAnswer::Refused(number),
     };
-    let asked = profile.samples().nth(k as usize);
+    let asked = profile.states().nth(k as usize);
     let (snap, state) = asked.expect("samples 0 to N are there");
     SampleAnswer::Sampled(Sample {
         snap,

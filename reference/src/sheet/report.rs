@@ -1,7 +1,7 @@
 //! What `bottlerun` prints about a sheet.
 
 use super::{read, Sheet, SheetRefusal};
-use crate::planner::{phases, plan, Answer, Move};
+use crate::planner::{durations, plan, Answer, Move};
 
 /// A line for each move, or a single line for a bad sheet.
 pub fn report(text: &[u8]) -> Vec<u8> {
@@ -32,7 +32,7 @@ fn move_line(number: usize, motion: &Move) -> String {
             shortfall,
         } => {
             let n = a + b + c + e;
-            let [p, q, r, s] = phases([a, b, c, e]);
+            let [p, q, r, s] = durations([a, b, c, e]);
             // D is at most S, which is at most 2^50.
             let snap = snap as i64 * motion.displacement.signum();
             format!("move {number} n {n} p {p} q {q} r {r} s {s} snap {snap} short {shortfall}\n")

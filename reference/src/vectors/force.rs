@@ -18,28 +18,30 @@ mod zeros;
 pub use coverage::missing;
 pub use machines::machines;
 pub use request::Request;
-pub use text::output;
+pub use text::{output, unwritten};
 
 use super::conditions::complete;
-use super::{gathered, Files};
+use super::{gathered, Drawn, Files};
 
 const SEED: u64 = 77;
 
 /// The most bytes that both files may have together.
 const MOST_BYTES: usize = 700_000;
 
+/// The lists of requests that draw on random numbers.
+pub const DRAWN: [Drawn<Request>; 7] = [
+    refused::requests,
+    short::requests,
+    long::requests,
+    zeros::requests,
+    subnormals::requests,
+    limits::requests,
+    dampings::requests,
+];
+
 /// The requests of the vectors.
 pub fn requests() -> Vec<Request> {
-    let drawn = [
-        refused::requests,
-        short::requests,
-        long::requests,
-        zeros::requests,
-        subnormals::requests,
-        limits::requests,
-        dampings::requests,
-    ];
-    gathered(paper::requests(), SEED, &drawn)
+    gathered(paper::requests(), SEED, &DRAWN)
 }
 
 /// Both files, or the conditions that the requests do not meet.

@@ -1,19 +1,19 @@
 //! Vectors for the planner: moves in, answers out.
 
-mod boundaries;
+pub mod boundaries;
 mod coverage;
-pub(super) mod edges;
-mod equalities;
-pub(super) mod field;
+pub mod edges;
+pub mod equalities;
+pub mod field;
 pub(super) mod from_intervals;
-pub(super) mod longest;
-pub(super) mod paper;
+pub mod longest;
+pub mod paper;
 mod property;
-pub(super) mod random;
+pub mod random;
 mod text;
-mod wrapping;
+pub mod wrapping;
 
-pub use coverage::missing;
+pub use coverage::{missing, BOUND_EDGES, DISPLACEMENT_EDGES};
 
 use super::conditions::complete;
 use super::splitmix::SplitMix64;

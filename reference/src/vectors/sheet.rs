@@ -1,7 +1,7 @@
 //! Vectors for the route sheet: texts in, the reader's answers and reports out.
 
-mod byte_edits;
-mod compose;
+pub mod byte_edits;
+pub mod compose;
 mod counts;
 mod coverage;
 mod cuts;
@@ -10,9 +10,9 @@ mod large;
 mod lengths;
 mod line_edits;
 mod moves;
-mod numbers;
+pub mod numbers;
 mod paper;
-mod random;
+pub mod random;
 mod set_numbers;
 mod text;
 mod two_errors;
@@ -23,7 +23,7 @@ pub use random::random_texts;
 pub use text::output;
 
 use super::conditions::complete;
-use super::{gathered, Files};
+use super::{gathered, Drawn, Files};
 
 const SEED: u64 = 1106;
 
@@ -33,9 +33,9 @@ const MOST_BYTES: usize = 300_000;
 /// A text that may be a sheet.
 pub type Text = Vec<u8>;
 
-/// The texts of the vectors.
-pub fn texts() -> Vec<Text> {
-    let fixed = [
+/// The texts that are always the same.
+pub fn fixed() -> Vec<Text> {
+    let lists = [
         paper::texts(),
         cuts::texts(),
         byte_edits::texts(),
@@ -46,8 +46,15 @@ pub fn texts() -> Vec<Text> {
         set_numbers::texts(),
         lengths::texts(),
     ];
-    let drawn = [moves::texts, large::texts, random::texts];
-    gathered(fixed.concat(), SEED, &drawn)
+    lists.concat()
+}
+
+/// The lists of texts that draw on random numbers.
+pub const DRAWN: [Drawn<Text>; 3] = [moves::texts, large::texts, random::texts];
+
+/// The texts of the vectors.
+pub fn texts() -> Vec<Text> {
+    gathered(fixed(), SEED, &DRAWN)
 }
 
 /// Both files, or the conditions that the texts do not meet.

@@ -19,7 +19,7 @@ pub enum Fault {
     /// J1 is S·a, A1 is J1·b or V1 is A1·c, even above its bound.
     BoundNotCarried(usize),
     SnapRoundedUp,
-    LongestDuration(u128),
+    MostSamples(u128),
 }
 
 /// W, V, A, J and S, then what is known when a search starts.
@@ -147,7 +147,7 @@ pub fn faulty_plan(fault: Fault, motion: &Move) -> Answer {
 
 fn answer(fault: Fault, w: u128, [a, b, c, e]: [u128; 4]) -> Answer {
     let longest = match fault {
-        Fault::LongestDuration(longest) => longest,
+        Fault::MostSamples(longest) => longest,
         _ => 4096,
     };
     if a + b + c + e > longest {

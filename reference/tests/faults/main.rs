@@ -16,8 +16,8 @@ const CHANGED: usize = 10;
 fn faults() -> Vec<Fault> {
     let mut list = vec![
         Fault::SnapRoundedUp,
-        Fault::LongestDuration(4095),
-        Fault::LongestDuration(4097),
+        Fault::MostSamples(4095),
+        Fault::MostSamples(4097),
     ];
     list.extend((0..10).map(Fault::StrictComparison));
     list.extend((0..10).map(Fault::SearchLeftOut));
@@ -43,7 +43,9 @@ fn without_a_fault_nothing_changes() {
 #[test]
 fn every_fault_changes_answers() {
     let moves = moves();
-    for fault in faults() {
+    let faults = faults();
+    assert_eq!(faults.len(), 40);
+    for fault in faults {
         let count = changed(fault, &moves);
         assert!(count >= CHANGED, "{fault:?} changes {count} answers only");
     }

@@ -6,6 +6,7 @@ use crate::faulty_factors::factors;
 use crate::faulty_machine::read;
 use crate::faulty_row::{signed, Travel};
 use crate::faulty_signal::{halved, signal};
+use crate::rows::copy;
 use reference::force::Machine;
 use reference::profile::TableAnswer;
 
@@ -94,13 +95,6 @@ fn rows(fault: Fault, travel: &Travel, numbers: [f64; 6], machine: &Machine) -> 
         halved(fault, signed(fault, RowFault::SignOfForce, travel, force))
     };
     (0..travel.rows()).map(row).collect()
-}
-
-/// As many rows as there are places for.
-fn copy(rows: &[f64], table: &mut [f64]) {
-    for (place, row) in table.iter_mut().zip(rows) {
-        *place = *row;
-    }
 }
 
 fn written(fault: Option<TableFault>, rows: &[f64], table: &mut [f64]) -> TableAnswer {

@@ -9,6 +9,8 @@ mod faulty_signal;
 mod faulty_table;
 mod flush;
 mod list;
+#[path = "../shared/rows.rs"]
+mod rows;
 
 use fault::Fault;
 use faulty_row::Travel;
@@ -38,7 +40,7 @@ fn cases() -> Vec<Case> {
 
 fn travel(request: &Request) -> Result<Travel, u8> {
     let profile = Profile::of(&request.motion)?;
-    let samples = profile.samples();
+    let samples = profile.states();
     let values = samples.map(|(snap, at)| [snap, at.jerk, at.acceleration, at.velocity]);
     let direction = request.motion.displacement.signum();
     Ok(Travel::new(values.collect(), direction))
@@ -74,7 +76,9 @@ fn without_a_fault_nothing_changes() {
 fn every_fault_changes_lines() {
     let cases = cases();
     let mut missed = Vec::new();
-    for fault in faults() {
+    let faults = faults();
+    assert_eq!(faults.len(), 249);
+    for fault in faults {
         let count = changed(fault, &cases);
         if count < needed(fault) {
             missed.push((fault, count));

@@ -15,7 +15,7 @@ pub enum Fault {
     LaterBorder(usize),
     EarlierBorder(usize),
     /// Two of the durations p, q, r and s stand for each other.
-    SwappedPhases(usize, usize),
+    SwappedDurations(usize, usize),
     /// The last segment goes on at sample N.
     SnapAtEnd,
     SnapRoundedUp,
@@ -42,8 +42,8 @@ pub enum Rounding {
     HalvesToEven,
     HalvesUp,
     HalvesDown,
-    /// What is one grain below a half is taken for a half.
-    OneGrainEarly,
+    /// What is one unit below a half is taken for a half.
+    OneUnitEarly,
     ThroughFloat,
     /// The exact position is rounded, not the one with D for the snap.
     OfExactProfile,
@@ -102,7 +102,7 @@ pub const ROUNDINGS: [Rounding; 11] = [
     Rounding::HalvesToEven,
     Rounding::HalvesUp,
     Rounding::HalvesDown,
-    Rounding::OneGrainEarly,
+    Rounding::OneUnitEarly,
     Rounding::ThroughFloat,
     Rounding::OfExactProfile,
 ];

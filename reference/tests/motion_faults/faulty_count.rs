@@ -22,7 +22,7 @@ fn away(dividend: i128, divisor: i128) -> i128 {
 
 fn rounded(rounding: Rounding, position: i128) -> i128 {
     let (size, sign) = (position.abs(), position.signum());
-    let down = |grains: i128| grains.div_euclid(G);
+    let down = |units: i128| units.div_euclid(G);
     let half = G / 2;
     match rounding {
         Rounding::TowardsZero => size / G * sign,
@@ -36,7 +36,7 @@ fn rounded(rounding: Rounding, position: i128) -> i128 {
         }
         Rounding::HalvesUp => down(position + half),
         Rounding::HalvesDown => down(position + half - 1),
-        Rounding::OneGrainEarly => (size + half + 1) / G * sign,
+        Rounding::OneUnitEarly => (size + half + 1) / G * sign,
         Rounding::ThroughFloat => (position as f64 / G as f64).round() as i128,
         Rounding::OfExactProfile => away(position, G),
     }

@@ -21,8 +21,8 @@ pub fn faulty_profile(fault: Fault, motion: &Move) -> Result<Faulty, u8> {
             snap, shortfall, ..
         } => (i128::from(snap), i128::from(shortfall)),
     };
-    let phases = answer.phases().expect("it is planned");
-    let n = answer.duration().expect("it is planned") as usize;
+    let durations = answer.durations().expect("it is planned");
+    let n = answer.samples().expect("it is planned") as usize;
     let w = motion.w() as i128;
     let size = match fault {
         Fault::SnapRoundedUp => d + i128::from(shortfall > 0),
@@ -30,7 +30,7 @@ pub fn faulty_profile(fault: Fault, motion: &Move) -> Result<Faulty, u8> {
         Fault::SnapRoundedToNearest => d + i128::from(2 * shortfall * d >= w - shortfall),
         _ => d,
     };
-    let snaps = snaps(fault, phases, size, n);
+    let snaps = snaps(fault, durations, size, n);
     let mut values = sums(fault, &snaps);
     if fault == Fault::EndMoved {
         values[n][4] = w;
@@ -44,11 +44,11 @@ pub fn faulty_profile(fault: Fault, motion: &Move) -> Result<Faulty, u8> {
 
 /// The snap at samples 0 to N.
 fn snaps(fault: Fault, [p, q, r, s]: [u64; 4], size: i128, n: usize) -> Vec<i128> {
-    let mut phases = [p, q, r, s];
-    if let Fault::SwappedPhases(one, other) = fault {
-        phases.swap(one, other);
+    let mut durations = [p, q, r, s];
+    if let Fault::SwappedDurations(one, other) = fault {
+        durations.swap(one, other);
     }
-    let [p, q, r, s] = phases;
+    let [p, q, r, s] = durations;
     let mut lengths = [p, q, p, r, p, q, p, s, p, q, p, r, p, q, p];
     let mut signs = [1, 0, -1, 0, -1, 0, 1, 0, -1, 0, 1, 0, 1, 0, -1];
     match fault {

@@ -3,6 +3,7 @@
 use crate::fault::{Fault, TableFault};
 use crate::faulty_count::faulty_count;
 use crate::faulty_profile::Faulty;
+use crate::rows::copy;
 use reference::profile::TableAnswer;
 
 /// Writes the positions, or refuses; both with the fault.
@@ -69,13 +70,6 @@ fn refused(fault: Option<TableFault>, rows: &[i64], table: &mut [i64]) -> u8 {
         copy(rows, table);
     }
     8
-}
-
-/// As many rows as there are places for.
-fn copy(rows: &[i64], table: &mut [i64]) {
-    for (place, row) in table.iter_mut().zip(rows) {
-        *place = *row;
-    }
 }
 
 fn written(fault: Option<TableFault>, rows: &[i64], table: &mut [i64]) -> TableAnswer {

@@ -8,6 +8,8 @@ mod faulty_count;
 mod faulty_entries;
 mod faulty_profile;
 mod faulty_table;
+#[path = "../shared/rows.rs"]
+mod rows;
 
 use fault::{Fault, ROUNDINGS, SAMPLE_FAULTS, TABLE_FAULTS};
 use faulty_entries::FaultyEntries;
@@ -32,7 +34,7 @@ fn faults() -> Vec<Fault> {
     list.extend((0..14).map(Fault::LaterBorder));
     list.extend((0..14).map(Fault::EarlierBorder));
     for one in 0..4 {
-        list.extend((one + 1..4).map(|other| Fault::SwappedPhases(one, other)));
+        list.extend((one + 1..4).map(|other| Fault::SwappedDurations(one, other)));
     }
     list.extend((0..5).map(Fault::ValueSignForgotten));
     list.extend(ROUNDINGS.map(Fault::Count));
@@ -68,7 +70,9 @@ fn every_fault_changes_lines() {
     let requests = requests();
     let right = lines(&Reference, &requests);
     let mut missed = Vec::new();
-    for fault in faults() {
+    let faults = faults();
+    assert_eq!(faults.len(), 126);
+    for fault in faults {
         let count = changed(fault, &requests, &right);
         println!("{count:>6} of {} lines: {fault:?}", right.len());
         if count < CHANGED {

@@ -8,7 +8,7 @@ use travel::{travels, Travel, Values};
 
 /// Positions at samples 0 to N of the profile with W for D, without a sign.
 fn exact_times_product(travel: &Travel) -> Vec<i128> {
-    let [p, q, r, s] = travel.phases;
+    let [p, q, r, s] = travel.durations;
     let lengths = [p, q, p, r, p, q, p, s, p, q, p, r, p, q, p];
     let signs = [1, 0, -1, 0, -1, 0, 1, 0, -1, 0, 1, 0, 1, 0, -1];
     let w = travel.motion.w() as i128;
@@ -27,9 +27,9 @@ fn exact_times_product(travel: &Travel) -> Vec<i128> {
 }
 
 fn sums_from_rest(travel: &Travel) {
-    assert_eq!(travel.samples[0].grains[1..], [0, 0, 0, 0]);
+    assert_eq!(travel.samples[0].units[1..], [0, 0, 0, 0]);
     for pair in travel.samples.windows(2) {
-        let (before, after) = (pair[0].grains, pair[1].grains);
+        let (before, after) = (pair[0].units, pair[1].units);
         for value in 1..5 {
             assert_eq!(after[value], before[value] + before[value - 1]);
         }
@@ -46,7 +46,7 @@ fn bounds(travel: &Travel) {
     } = travel.motion;
     let bounds = [snap, jerk, acceleration, velocity].map(i128::from);
     for sample in &travel.samples {
-        for (value, bound) in sample.grains.iter().zip(bounds) {
+        for (value, bound) in sample.units.iter().zip(bounds) {
             assert!(value.abs() <= bound);
         }
     }
@@ -54,7 +54,7 @@ fn bounds(travel: &Travel) {
 
 fn never_turning_back(travel: &Travel) {
     let direction = i128::from(travel.motion.displacement.signum());
-    let forward = |sample: &Values| direction * sample.grains[3] >= 0;
+    let forward = |sample: &Values| direction * sample.units[3] >= 0;
     assert!(travel.samples.iter().all(forward));
 }
 
@@ -63,7 +63,7 @@ fn half_count(travel: &Travel) {
     let exact = exact_times_product(travel);
     assert_eq!(exact.len(), travel.samples.len());
     for (sample, exact) in travel.samples.iter().zip(exact) {
-        let behind = exact - direction * travel.product * sample.grains[4];
+        let behind = exact - direction * travel.product * sample.units[4];
         assert!(behind >= 0);
         assert!(2 * behind < (1 << 40) * travel.product);
     }
@@ -71,14 +71,14 @@ fn half_count(travel: &Travel) {
 
 fn end(travel: &Travel) {
     let last = travel.samples.last().expect("sample 0 is there");
-    assert_eq!(last.grains[1..4], [0, 0, 0]);
+    assert_eq!(last.units[1..4], [0, 0, 0]);
     assert_eq!(last.count, travel.motion.displacement);
 }
 
 /// The paper has this outside demand 3: at sample N the snap is 0 too.
 fn snap_at_the_end(travel: &Travel) {
     let last = travel.samples.last().expect("sample 0 is there");
-    assert_eq!(last.grains[0], 0);
+    assert_eq!(last.units[0], 0);
 }
 
 fn table_of_positions(travel: &Travel) {
@@ -86,7 +86,7 @@ fn table_of_positions(travel: &Travel) {
     let rows = TableAnswer::Written(table.len() as u64);
     assert_eq!(position_table(&travel.motion, &mut table), rows);
     for (place, sample) in table.iter().zip(&travel.samples) {
-        assert_eq!(i128::from(*place), sample.grains[4]);
+        assert_eq!(i128::from(*place), sample.units[4]);
     }
 }
 

@@ -9,14 +9,14 @@ pub struct Travel {
     pub motion: Move,
     /// P in the paper: a·b·c·e.
     pub product: i128,
-    pub phases: [u64; 4],
+    pub durations: [u64; 4],
     pub samples: Vec<Values>,
 }
 
 /// Snap, jerk, acceleration, velocity and position, and the count.
 #[derive(Clone, Copy)]
 pub struct Values {
-    pub grains: [i128; 5],
+    pub units: [i128; 5],
     pub count: i64,
 }
 
@@ -24,7 +24,7 @@ fn values(motion: &Move, k: u64) -> Values {
     match sample(motion, k) {
         SampleAnswer::Refused(number) => panic!("sample {k} of {motion:?} is refused {number}"),
         SampleAnswer::Sampled(at) => Values {
-            grains: at.values().map(i128::from),
+            units: at.values().map(i128::from),
             count: at.count,
         },
     }
@@ -39,7 +39,7 @@ fn travel(motion: &Move) -> Option<Travel> {
     Some(Travel {
         motion: *motion,
         product: [a, b, c, e].map(i128::from).iter().product(),
-        phases: answer.phases()?,
+        durations: answer.durations()?,
         samples: (0..=a + b + c + e).map(|k| values(motion, k)).collect(),
     })
 }
@@ -52,8 +52,8 @@ pub fn travels() -> impl Iterator<Item = Travel> {
     // Requests about a move stand together.
     others.dedup();
     let list = planner::moves().into_iter().chain(others);
-    let with_duration = |m: Move| plan(&m).duration().map(|n| (m, n));
-    let planned: Vec<(Move, u64)> = list.filter_map(with_duration).collect();
+    let with_samples = |m: Move| plan(&m).samples().map(|n| (m, n));
+    let planned: Vec<(Move, u64)> = list.filter_map(with_samples).collect();
     let short = planned.clone().into_iter().filter(|(_, n)| *n <= 500);
     let long = planned.into_iter().filter(|(_, n)| *n > 500).step_by(25);
     let both = |(motion, _): (Move, u64)| {

@@ -3,7 +3,7 @@
 use crate::fault::{Fault, PrintFault, ReportFault};
 use crate::faulty_print::printed;
 use crate::faulty_reader::FaultyReading;
-use reference::planner::{phases, plan, Answer, Move, LARGEST_BOUND, LARGEST_DISPLACEMENT};
+use reference::planner::{durations, plan, Answer, Move, LARGEST_BOUND, LARGEST_DISPLACEMENT};
 use reference::sheet::{Sheet, SheetMove, SheetRefusal};
 
 pub fn faulty_report(fault: Fault, reading: &FaultyReading) -> Vec<u8> {
@@ -114,7 +114,7 @@ fn line(fault: Option<ReportFault>, motion: &Move, answer: Answer) -> String {
             snap,
             shortfall,
         } => {
-            let [n, p, q, r, s] = durations(fault, [a, b, c, e]);
+            let [n, p, q, r, s] = faulty_durations(fault, [a, b, c, e]);
             let [snap, short] = sizes(fault, motion, snap, shortfall);
             format!("n {n} p {p} q {q} r {r} s {s} snap {snap} short {short}")
         }
@@ -137,8 +137,8 @@ fn refusal(fault: Option<ReportFault>, motion: &Move, number: u8) -> u8 {
 }
 
 /// n, p, q, r and s.
-fn durations(fault: Option<ReportFault>, intervals: [u64; 4]) -> [u64; 5] {
-    let [p, q, r, s] = phases(intervals);
+fn faulty_durations(fault: Option<ReportFault>, intervals: [u64; 4]) -> [u64; 5] {
+    let [p, q, r, s] = durations(intervals);
     let mut list = [intervals.iter().sum(), p, q, r, s];
     match fault {
         Some(ReportFault::Exchanged(one, other)) => list.swap(one, other),

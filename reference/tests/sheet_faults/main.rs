@@ -43,6 +43,7 @@ fn without_a_fault_nothing_changes() {
 fn every_fault_changes_answers() {
     let cases = cases();
     let mut missed = faults();
+    assert_eq!(missed.len(), 268);
     missed.retain(|fault| !is_found(*fault, &cases));
     assert!(missed.is_empty(), "no answers changed: {missed:?}");
 }

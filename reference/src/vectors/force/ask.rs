@@ -8,12 +8,12 @@ use crate::vectors::motion::short::short_move;
 use crate::vectors::splitmix::SplitMix64;
 use crate::vectors::table_text::{MOST_PLACES, MOST_PRINTED};
 
-/// Up to this duration all rows are printed, and some places after them.
+/// Up to this N all rows are printed, and some places after them.
 pub const LONGEST: u64 = 34;
 
 /// The number of rows of a planned move: N+2.
 pub fn rows(motion: &Move) -> u64 {
-    plan(motion).duration().unwrap_or(0) + 2
+    plan(motion).samples().unwrap_or(0) + 2
 }
 
 /// The places of the table whose turn it is.

@@ -9,8 +9,8 @@ use crate::vectors::motion::shapes::{drawn, shapes};
 use crate::vectors::planner::field::with_displacement;
 use crate::vectors::splitmix::SplitMix64;
 
-/// The durations: the longest, nearly the longest, and any.
-const DURATIONS: [[u64; 2]; 4] = [[4_096, 4_096], [4_096, 4_096], [4_081, 4_095], [100, 4_000]];
+/// The fewest and the most samples of a move: the longest, nearly so, and any.
+const SAMPLES: [[u64; 2]; 4] = [[4_096, 4_096], [4_096, 4_096], [4_081, 4_095], [100, 4_000]];
 
 /// The kinds of machine that the sizes of a long move do not drown.
 const MACHINES: [Kind; 4] = [Kind::Balanced, Kind::Wide, Kind::Balanced, Kind::Whole];
@@ -18,8 +18,8 @@ const MACHINES: [Kind; 4] = [Kind::Balanced, Kind::Wide, Kind::Balanced, Kind::W
 pub fn requests(random: &mut SplitMix64) -> Vec<Request> {
     let mut list = Vec::new();
     for (k, shape) in shapes().into_iter().enumerate() {
-        for (turn, durations) in DURATIONS.into_iter().enumerate() {
-            let motion = drawn(random, |random| long_move(shape, durations, None, random));
+        for (turn, samples) in SAMPLES.into_iter().enumerate() {
+            let motion = drawn(random, |random| long_move(shape, samples, None, random));
             let Some(motion) = motion else {
                 continue;
             };
@@ -35,7 +35,7 @@ pub fn requests(random: &mut SplitMix64) -> Vec<Request> {
 
 /// Two of the three parts, by turns.
 fn about(turn: usize, filtered: bool, motion: &Move, random: &mut SplitMix64) -> [Request; 2] {
-    let [p, ..] = plan(motion).phases().unwrap_or([1; 4]);
+    let [p, ..] = plan(motion).durations().unwrap_or([1; 4]);
     let time = i64::from(p.ilog2() + random.below(3) as u32);
     let machine = any_machine(MACHINES[turn % 4], filtered, time, random);
     let parts = [from_start, from_middle, to_end];

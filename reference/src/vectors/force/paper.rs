@@ -23,7 +23,7 @@ pub fn requests() -> Vec<Request> {
 }
 
 fn ask(turn: usize, motion: &Move, machine: &Machine) -> Request {
-    match plan(motion).duration() {
+    match plan(motion).samples() {
         Some(n) if n <= LONGEST => from_start(turn, motion, machine),
         _ => to_end(turn, motion, machine),
     }

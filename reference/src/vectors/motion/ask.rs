@@ -24,9 +24,9 @@ pub fn table(kind: Kind, motion: &Move, places: u64, first: u64) -> Request {
     }
 }
 
-/// All samples of a move that lasts `duration` samples, and the first too many.
-pub fn all_samples(motion: &Move, duration: u64) -> Request {
-    samples(motion, 0, duration + 2)
+/// All samples of a move with this N, and the first too many.
+pub fn all_samples(motion: &Move, n: u64) -> Request {
+    samples(motion, 0, n + 2)
 }
 
 /// Samples that lie on a border between segments, from 0 to N, none twice.
@@ -58,16 +58,15 @@ pub fn around_borders(motion: &Move, profile: &Profile) -> Vec<Request> {
 
 /// A table of this many places, printed around its last rows or at its end, so
 /// that the line stays short.
-pub fn table_end(kind: Kind, motion: &Move, places: u64, duration: u64) -> Request {
-    let first = duration.saturating_sub(1);
-    if places <= duration + 8 {
+pub fn table_end(kind: Kind, motion: &Move, places: u64, n: u64) -> Request {
+    let first = n.saturating_sub(1);
+    if places <= n + 8 {
         return table(kind, motion, places, first.min(places.saturating_sub(3)));
     }
     table(kind, motion, places, places - 2)
 }
 
 /// The places that a table is lent with, beside those below N.
-pub fn lengths(duration: u64) -> [u64; 7] {
-    let n = duration;
+pub fn lengths(n: u64) -> [u64; 7] {
     [0, n, n + 1, n + 2, n + 7, 4_097, 4_200]
 }

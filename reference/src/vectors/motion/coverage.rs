@@ -61,8 +61,8 @@ impl Asked<'_> {
 
     /// Whether all samples from 0 to N are asked for, and the first too many.
     fn is_whole(&self, motion: &Move) -> bool {
-        let duration = self.plans.get(motion).and_then(Answer::duration);
-        duration.is_some_and(|n| (0..=n + 1).all(|k| self.samples[motion].contains(&k)))
+        let n = self.plans.get(motion).and_then(Answer::samples);
+        n.is_some_and(|n| (0..=n + 1).all(|k| self.samples[motion].contains(&k)))
     }
 }
 
@@ -94,7 +94,7 @@ fn counts(asked: &Asked) -> Vec<Condition> {
 /// The paper's moves are there, the short ones with all their samples.
 fn paper_moves(asked: &Asked) -> Vec<Condition> {
     let of = |motion: &Move| {
-        let short = plan(motion).duration().is_some_and(|n| n <= 40);
+        let short = plan(motion).samples().is_some_and(|n| n <= 40);
         let met = asked.plans.contains_key(motion) && (!short || asked.is_whole(motion));
         let Move {
             displacement,

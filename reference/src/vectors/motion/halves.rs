@@ -2,8 +2,8 @@
 
 use super::ask::samples;
 use super::request::Request;
-use super::shapes::{drawn, exact, phases, shaped, shapes, size_for};
-use crate::planner::{plan, Answer, Move, COUNT_GRAINS, LARGEST_DISPLACEMENT};
+use super::shapes::{drawn, durations, exact, shaped, shapes, size_for};
+use crate::planner::{plan, Answer, Move, LARGEST_DISPLACEMENT, UNITS_PER_COUNT};
 use crate::profile::Profile;
 use crate::vectors::planner::field::with_both_signs;
 use crate::vectors::splitmix::SplitMix64;
@@ -14,10 +14,10 @@ const MOVES: usize = 8;
 /// Samples asked for in one move at most.
 const SAMPLES: usize = 3;
 
-/// How near to a half "next to" is, in grains.
+/// How near to a half "next to" is, in units.
 pub const NEAR: i64 = 1 << 22;
 
-const HALF: i64 = COUNT_GRAINS as i64 / 2;
+const HALF: i64 = UNITS_PER_COUNT as i64 / 2;
 
 pub fn requests(random: &mut SplitMix64) -> Vec<Request> {
     let kinds: [fn(&mut SplitMix64) -> Option<Move>; 5] =
@@ -44,7 +44,7 @@ fn about(motion: &Move) -> Vec<Request> {
     let Ok(profile) = Profile::of(motion) else {
         return Vec::new();
     };
-    let positions = profile.samples().map(|(_, state)| state.position);
+    let positions = profile.states().map(|(_, state)| state.position);
     let mut near: Vec<(i64, u64)> = positions.map(|x| above_half(x).abs()).zip(0..).collect();
     near.sort_unstable();
     near.truncate(SAMPLES);
@@ -56,35 +56,35 @@ fn about(motion: &Move) -> Vec<Request> {
     with_both_signs(&[*motion]).iter().flat_map(ask).collect()
 }
 
-fn any_phases(duration: u64, random: &mut SplitMix64) -> Option<[u64; 4]> {
+fn any_durations(samples: u64, random: &mut SplitMix64) -> Option<[u64; 4]> {
     let shape = shapes()[random.below(8) as usize];
-    phases(shape, duration, random)
+    durations(shape, samples, random)
 }
 
 fn has_distance(motion: &Move, wanted: impl Fn(i64) -> bool) -> bool {
     Profile::of(motion).is_ok_and(|profile| {
-        let mut positions = profile.samples().map(|(_, state)| state.position);
+        let mut positions = profile.states().map(|(_, state)| state.position);
         positions.any(|position| wanted(above_half(position)))
     })
 }
 
 /// A snap with many zeros at its end and no shortfall: positions at halves.
 fn at_a_half(random: &mut SplitMix64) -> Option<Move> {
-    let phases = any_phases(random.between(8, 60), random)?;
+    let durations = any_durations(random.between(8, 60), random)?;
     let snap = (2 * random.log_uniform(8) + 1) << random.between(34, 39);
-    exact(phases, snap).filter(|motion| has_distance(motion, |distance| distance == 0))
+    exact(durations, snap).filter(|motion| has_distance(motion, |distance| distance == 0))
 }
 
 /// With X and N odd the middle of the way lies at a sample, and its position is
 /// below a half by half of the shortfall.
 fn odd_move(
     size: u64,
-    duration: u64,
+    samples: u64,
     shortfalls: [u64; 2],
     random: &mut SplitMix64,
 ) -> Option<Move> {
-    let phases = any_phases(duration | 1, random)?;
-    let motion = shaped((size | 1) as i64, phases, random)?;
+    let durations = any_durations(samples | 1, random)?;
+    let motion = shaped((size | 1) as i64, durations, random)?;
     let Answer::Planned { shortfall, .. } = plan(&motion) else {
         return None;
     };
@@ -92,7 +92,7 @@ fn odd_move(
     (least..=most).contains(&shortfall).then_some(motion)
 }
 
-/// A position one grain below a half.
+/// A position one unit below a half.
 fn one_below(random: &mut SplitMix64) -> Option<Move> {
     let size = random.below(2_000);
     odd_move(size, random.between(8, 60), [2, 2], random)
@@ -106,8 +106,8 @@ fn large_below(random: &mut SplitMix64) -> Option<Move> {
 }
 
 fn any_move(random: &mut SplitMix64) -> Option<Move> {
-    let phases = any_phases(random.between(500, 3_000), random)?;
-    shaped(size_for(phases, random), phases, random)
+    let durations = any_durations(random.between(500, 3_000), random)?;
+    shaped(size_for(durations, random), durations, random)
 }
 
 fn near_above(random: &mut SplitMix64) -> Option<Move> {

@@ -11,7 +11,7 @@ use crate::vectors::splitmix::SplitMix64;
 
 const MOVES: usize = 200;
 
-/// The shortfall that such a move has at least, in grains.
+/// The shortfall that such a move has at least, in units.
 pub const LARGE_SHORTFALL: u64 = 1 << 10;
 
 pub fn requests(random: &mut SplitMix64) -> Vec<Request> {
@@ -27,15 +27,15 @@ pub fn requests(random: &mut SplitMix64) -> Vec<Request> {
     list
 }
 
-/// A move that is planned, with its duration.
+/// A move that is planned, with its number of samples (N).
 fn odd_move(random: &mut SplitMix64) -> Option<(Move, u64)> {
     let displacement = displacement(random);
-    let duration = 8 + random.log_uniform(4_088);
-    let motion = relaxed(&move_with(displacement, duration, random), random);
+    let samples = 8 + random.log_uniform(4_088);
+    let motion = relaxed(&move_with(displacement, samples, random), random);
     let answer = plan(&motion);
     match answer {
         Answer::Planned { shortfall, .. } if shortfall >= LARGE_SHORTFALL => {
-            answer.duration().map(|n| (motion, n))
+            answer.samples().map(|n| (motion, n))
         }
         _ => None,
     }

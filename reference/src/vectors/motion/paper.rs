@@ -6,7 +6,7 @@ use crate::planner::Move;
 use crate::profile::Profile;
 use crate::vectors::planner::paper;
 
-/// Up to this duration all samples are asked for.
+/// Up to this N all samples are asked for.
 const SHORT: u64 = 40;
 
 pub fn requests() -> Vec<Request> {
@@ -21,7 +21,7 @@ pub fn requests() -> Vec<Request> {
 }
 
 fn about_planned(motion: &Move, profile: &Profile) -> Vec<Request> {
-    let n = profile.duration;
+    let n = profile.samples;
     let mut list = match n <= SHORT {
         true => vec![all_samples(motion, n)],
         false => around_borders(motion, profile),

@@ -30,7 +30,7 @@ pub fn too_long(random: &mut SplitMix64) -> Vec<Move> {
     let moves = longest::moves(random);
     let lasts = |range: std::ops::Range<u128>| {
         let too_long = move |motion: &&Move| {
-            Intervals::of(motion).is_ok_and(|found| range.contains(&found.duration()))
+            Intervals::of(motion).is_ok_and(|found| range.contains(&found.samples()))
         };
         moves.iter().filter(too_long).take(TOO_LONG).copied()
     };

@@ -1,6 +1,6 @@
 //! Moves made for a shape: which of the durations q, r and s are not 0.
 
-use crate::planner::{plan, Answer, Move, COUNT_GRAINS, LARGEST_BOUND, LARGEST_DISPLACEMENT};
+use crate::planner::{plan, Answer, Move, LARGEST_BOUND, LARGEST_DISPLACEMENT, UNITS_PER_COUNT};
 use crate::vectors::planner::from_intervals::move_from;
 use crate::vectors::splitmix::SplitMix64;
 
@@ -23,8 +23,8 @@ pub fn shape_of([_, q, r, s]: [u64; 4]) -> Shape {
 /// Whether the move is planned with this shape.
 pub fn has_shape(answer: &Answer, shape: Shape) -> bool {
     answer
-        .phases()
-        .is_some_and(|phases| shape_of(phases) == shape)
+        .durations()
+        .is_some_and(|durations| shape_of(durations) == shape)
 }
 
 /// The names of the durations that are not 0.
@@ -39,13 +39,13 @@ pub fn drawn<T>(random: &mut SplitMix64, draw: impl Fn(&mut SplitMix64) -> Optio
     (0..DRAWS).find_map(|_| draw(random))
 }
 
-/// Durations p, q, r and s of the shape that last exactly `duration` samples,
+/// Durations p, q, r and s of the shape that make exactly so many samples,
 /// if the draw comes out so.
-pub fn phases(shape: Shape, duration: u64, random: &mut SplitMix64) -> Option<[u64; 4]> {
+pub fn durations(shape: Shape, samples: u64, random: &mut SplitMix64) -> Option<[u64; 4]> {
     let wanted = [true, shape[0], shape[1], shape[2]];
     let finest = wanted.iter().rposition(|wanted| *wanted)?;
     let mut list = [0; 4];
-    let mut rest = duration;
+    let mut rest = samples;
     for (k, unit) in [8, 4, 2, 1].into_iter().enumerate() {
         if !wanted[k] {
             continue;
@@ -69,26 +69,26 @@ pub fn intervals([p, q, r, s]: [u64; 4]) -> [u64; 4] {
 }
 
 /// A size in counts for which a velocity in range leads to these durations.
-pub fn size_for(phases: [u64; 4], random: &mut SplitMix64) -> i64 {
-    let [_, _, _, e] = intervals(phases);
-    let largest = LARGEST_DISPLACEMENT.min(LARGEST_BOUND / COUNT_GRAINS as u64 * e);
+pub fn size_for(durations: [u64; 4], random: &mut SplitMix64) -> i64 {
+    let [_, _, _, e] = intervals(durations);
+    let largest = LARGEST_DISPLACEMENT.min(LARGEST_BOUND / UNITS_PER_COUNT as u64 * e);
     random.log_uniform(largest).max(1) as i64
 }
 
 /// A move with these durations, if the draw comes out so.
-pub fn shaped(displacement: i64, phases: [u64; 4], random: &mut SplitMix64) -> Option<Move> {
-    let motion = move_from(displacement, intervals(phases), random);
-    (plan(&motion).phases() == Some(phases)).then_some(motion)
+pub fn shaped(displacement: i64, durations: [u64; 4], random: &mut SplitMix64) -> Option<Move> {
+    let motion = move_from(displacement, intervals(durations), random);
+    (plan(&motion).durations() == Some(durations)).then_some(motion)
 }
 
 /// The positive move with these durations and this snap whose shortfall is 0,
 /// if there is one: each bound is what the snap just reaches.
-pub fn exact(phases: [u64; 4], snap: u64) -> Option<Move> {
-    let [a, b, c, e] = intervals(phases).map(u128::from);
+pub fn exact(durations: [u64; 4], snap: u64) -> Option<Move> {
+    let [a, b, c, e] = intervals(durations).map(u128::from);
     let velocity = u128::from(snap) * a * b * c;
-    let grains = velocity * e;
-    let counts = grains / COUNT_GRAINS;
-    let whole = grains % COUNT_GRAINS == 0;
+    let units = velocity * e;
+    let counts = units / UNITS_PER_COUNT;
+    let whole = units % UNITS_PER_COUNT == 0;
     let in_range = counts <= LARGEST_DISPLACEMENT.into() && velocity <= LARGEST_BOUND.into();
     (whole && in_range).then(|| Move {
         displacement: counts as i64,

@@ -2,7 +2,7 @@
 
 use super::ask::{all_samples, lengths, table_end};
 use super::request::{Kind, Request};
-use super::shapes::{drawn, phases, shaped, shapes, size_for, Shape};
+use super::shapes::{drawn, durations, shaped, shapes, size_for, Shape};
 use crate::planner::{plan, Move};
 use crate::vectors::splitmix::SplitMix64;
 
@@ -33,14 +33,14 @@ pub fn short_move(
     longest: u64,
     random: &mut SplitMix64,
 ) -> Option<Move> {
-    let duration = random.between(8, longest);
-    let phases = phases(shape, duration, random)?;
-    shaped(direction * size_for(phases, random), phases, random)
+    let samples = random.between(8, longest);
+    let durations = durations(shape, samples, random)?;
+    shaped(direction * size_for(durations, random), durations, random)
 }
 
 /// All samples, and tables of the two lengths whose turn it is.
 fn about(turn: usize, motion: &Move) -> Vec<Request> {
-    let n = plan(motion).duration().unwrap_or(0);
+    let n = plan(motion).samples().unwrap_or(0);
     let lengths = lengths(n);
     let places = |turn: usize| lengths[turn % lengths.len()];
     vec![

@@ -42,7 +42,7 @@ pub fn output(entries: &impl Entries, request: &Request) -> String {
 }
 
 /// What a place holds before the call: no two are alike, and none is a position.
-fn unwritten(place: u64) -> i64 {
+pub fn unwritten(place: u64) -> i64 {
     (1 << 62) + place as i64
 }
 

@@ -6,7 +6,7 @@ use super::from_intervals::move_with;
 use super::property::Property;
 use super::random::{displacement, relaxed};
 use crate::planner::{
-    deciding_searches, Intervals, Move, LARGEST_BOUND, LARGEST_DURATION, SEARCH_COUNT,
+    deciding_searches, Intervals, Move, LARGEST_BOUND, MOST_SAMPLES, SEARCH_COUNT,
 };
 use crate::vectors::splitmix::SplitMix64;
 
@@ -33,12 +33,12 @@ fn bases(search: usize, random: &mut SplitMix64) -> Vec<(Move, Intervals)> {
         if list.len() == BASES {
             break;
         }
-        let duration = 8 + random.log_uniform(4_000);
+        let samples = 8 + random.log_uniform(4_000);
         let displacement = displacement(random);
-        let motion = relaxed(&move_with(displacement, duration, random), random);
+        let motion = relaxed(&move_with(displacement, samples, random), random);
         if let Ok(found) = Intervals::of(&motion) {
             let decides = deciding_searches(&found).contains(&search);
-            if decides && found.duration() <= LARGEST_DURATION {
+            if decides && found.samples() <= MOST_SAMPLES {
                 list.push((motion, found));
             }
         }

@@ -19,10 +19,10 @@ const SEARCH_NAMES: [&str; SEARCH_COUNT] = [
 const LIMIT_NAMES: [&str; 3] = ["b", "c", "e"];
 
 /// Values that each bound must have somewhere.
-pub(super) const BOUND_EDGES: [u64; 5] = [0, 1, 1 << 50, (1 << 50) + 1, u64::MAX];
+pub const BOUND_EDGES: [u64; 5] = [0, 1, 1 << 50, (1 << 50) + 1, u64::MAX];
 
 /// Values that the displacement must have somewhere.
-pub(super) const DISPLACEMENT_EDGES: [i64; 9] = [
+pub const DISPLACEMENT_EDGES: [i64; 9] = [
     0,
     1,
     -1,
@@ -39,7 +39,7 @@ pub fn missing(moves: &[Move]) -> Vec<String> {
     let mut conditions = counts(moves);
     conditions.extend(deciders(moves));
     conditions.extend(refusals(moves));
-    conditions.extend(durations(moves));
+    conditions.extend(sample_limits(moves));
     conditions.extend(signs(moves));
     conditions.extend(edges(moves));
     unmet(conditions)
@@ -90,9 +90,9 @@ fn refusals(moves: &[Move]) -> Vec<Condition> {
         .collect()
 }
 
-/// The last duration that is planned and the first that is not.
-fn durations(moves: &[Move]) -> Vec<Condition> {
-    let lasts = |motion: &Move, n| Intervals::of(motion).is_ok_and(|found| found.duration() == n);
+/// The most samples that are planned, and one more.
+fn sample_limits(moves: &[Move]) -> Vec<Condition> {
+    let lasts = |motion: &Move, n| Intervals::of(motion).is_ok_and(|found| found.samples() == n);
     let longest = moves.iter().any(|m| lasts(m, 4096) && is_planned(m));
     let beyond = moves.iter().any(|m| lasts(m, 4097) && !is_planned(m));
     vec![

@@ -2,7 +2,7 @@
 
 use super::coverage::{BOUND_EDGES, DISPLACEMENT_EDGES};
 use super::field::{with_both_signs, with_displacement, BOUNDS};
-use crate::planner::{Move, COUNT_GRAINS, LARGEST_BOUND};
+use crate::planner::{Move, LARGEST_BOUND, UNITS_PER_COUNT};
 
 pub fn moves() -> Vec<Move> {
     let mut list = displacement_edges();
@@ -23,7 +23,7 @@ fn same_bounds(displacement: i64, bound: u64) -> Move {
 
 /// Moves that one changed number takes over an edge.
 fn bases() -> [Move; 4] {
-    let count = COUNT_GRAINS as u64;
+    let count = UNITS_PER_COUNT as u64;
     [
         same_bounds(8, count),
         same_bounds(1_048_576, LARGEST_BOUND),
@@ -64,7 +64,7 @@ fn several_refusals() -> Vec<Move> {
 
 /// The binary digits of the choice say which bounds have the wrong value.
 fn with_wrong_bounds(displacement: i64, wrong: u64, choice: u32) -> Move {
-    let mut motion = same_bounds(displacement, COUNT_GRAINS as u64);
+    let mut motion = same_bounds(displacement, UNITS_PER_COUNT as u64);
     for (k, field) in BOUNDS.iter().enumerate() {
         if choice >> k & 1 == 1 {
             motion = field.set(&motion, wrong);

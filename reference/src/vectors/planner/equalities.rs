@@ -5,7 +5,7 @@
 //! comparison, a rounding to nearest, or a bound not carried on.
 
 use super::field::{with_both_signs, with_displacement, BOUNDS};
-use crate::planner::{Move, COUNT_GRAINS, LARGEST_BOUND, LARGEST_DISPLACEMENT};
+use crate::planner::{Move, LARGEST_BOUND, LARGEST_DISPLACEMENT, UNITS_PER_COUNT};
 
 pub fn moves() -> Vec<Move> {
     let mut list = Vec::new();
@@ -18,7 +18,7 @@ pub fn moves() -> Vec<Move> {
 }
 
 /// Intervals a with displacements for which 8·a^4 divides W. The last ones
-/// have the smallest bounds and the longest duration that a plan can have.
+/// have the smallest bounds and the most samples that a plan can have.
 fn sizes() -> [(u64, i64); 10] {
     [
         (1, 8),
@@ -36,7 +36,7 @@ fn sizes() -> [(u64, i64); 10] {
 
 /// The move with all equalities, if its bounds are in range.
 fn equal_move(a: u64, displacement: i64) -> Option<Move> {
-    let w = COUNT_GRAINS * u128::from(displacement.unsigned_abs());
+    let w = UNITS_PER_COUNT * u128::from(displacement.unsigned_abs());
     let snap = u64::try_from(w / (8 * u128::from(a).pow(4))).ok()?;
     let motion = Move {
         displacement,

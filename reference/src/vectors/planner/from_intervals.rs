@@ -1,21 +1,20 @@
 //! Moves made backwards: from the intervals to bounds that lead to them.
 
-use crate::planner::{Move, COUNT_GRAINS, LARGEST_BOUND};
+use crate::planner::{Move, LARGEST_BOUND, UNITS_PER_COUNT};
 use crate::vectors::splitmix::SplitMix64;
 
-/// A move of this displacement that lasts `duration` samples, 8 or more, or
-/// nearly so.
-pub fn move_with(displacement: i64, duration: u64, random: &mut SplitMix64) -> Move {
-    let intervals = intervals(duration, random);
+/// A move of this displacement and of so many samples, 8 or more, or nearly so.
+pub fn move_with(displacement: i64, samples: u64, random: &mut SplitMix64) -> Move {
+    let intervals = intervals(samples, random);
     move_from(displacement, intervals, random)
 }
 
-/// Intervals a, b, c and e that a plan can have, with N = `duration`, 8 or more.
-fn intervals(duration: u64, random: &mut SplitMix64) -> [u64; 4] {
-    let p = random.log_uniform(duration / 8).max(1);
-    let q = random.log_uniform((duration - 8 * p) / 4);
-    let r = random.log_uniform((duration - 8 * p - 4 * q) / 2);
-    let s = duration - 8 * p - 4 * q - 2 * r;
+/// Intervals a, b, c and e that a plan of so many samples, 8 or more, can have.
+fn intervals(samples: u64, random: &mut SplitMix64) -> [u64; 4] {
+    let p = random.log_uniform(samples / 8).max(1);
+    let q = random.log_uniform((samples - 8 * p) / 4);
+    let r = random.log_uniform((samples - 8 * p - 4 * q) / 2);
+    let s = samples - 8 * p - 4 * q - 2 * r;
     let (a, b) = (p, p + q);
     let c = a + b + r;
     [a, b, c, a + b + c + s]
@@ -25,8 +24,8 @@ fn intervals(duration: u64, random: &mut SplitMix64) -> [u64; 4] {
 /// what its interval needs. Where the whole numbers are too coarse for that,
 /// the intervals come out near.
 pub fn move_from(displacement: i64, [a, b, c, e]: [u64; 4], random: &mut SplitMix64) -> Move {
-    let grains = COUNT_GRAINS as u64 * displacement.unsigned_abs();
-    let velocity = needing(grains, e, random);
+    let units = UNITS_PER_COUNT as u64 * displacement.unsigned_abs();
+    let velocity = needing(units, e, random);
     let acceleration = needing(velocity, c, random);
     let jerk = needing(acceleration, b, random);
     Move {

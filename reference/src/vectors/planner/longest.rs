@@ -1,21 +1,22 @@
-//! Moves at the longest duration allowed, 4096 samples, and just beyond it.
+//! Moves of the most samples allowed, 4096, and of just more.
 
 use super::field::{with_both_signs, with_displacement, Field, BOUNDS};
 use super::from_intervals::move_with;
 use super::random::{displacement, relaxed};
 use crate::least::least;
-use crate::planner::{Intervals, Move, LARGEST_BOUND, LARGEST_DISPLACEMENT, LARGEST_DURATION};
+use crate::planner::{Intervals, Move, LARGEST_BOUND, LARGEST_DISPLACEMENT, MOST_SAMPLES};
 use crate::vectors::splitmix::SplitMix64;
 
-/// Moves brought to the limit by each number, and moves made for each duration.
+/// Moves brought to the limit by each bound, and moves made for each number of
+/// samples.
 const BASES: usize = 16;
 
 pub fn moves(random: &mut SplitMix64) -> Vec<Move> {
     let mut list = Vec::new();
     for _ in 0..BASES {
-        for duration in [4095, 4096, 4097, 4098] {
+        for samples in [4095, 4096, 4097, 4098] {
             let displacement = displacement(random);
-            list.push(move_with(displacement, duration, random));
+            list.push(move_with(displacement, samples, random));
         }
         for field in BOUNDS {
             list.extend(at_bound(field, &base(random)));
@@ -25,15 +26,15 @@ pub fn moves(random: &mut SplitMix64) -> Vec<Move> {
     list
 }
 
-/// A move of any duration, with some bounds that do not matter.
+/// A move of any number of samples, with some bounds that do not matter.
 fn base(random: &mut SplitMix64) -> Move {
-    let duration = random.between(2_000, 4_090);
+    let samples = random.between(2_000, 4_090);
     let displacement = displacement(random);
-    relaxed(&move_with(displacement, duration, random), random)
+    relaxed(&move_with(displacement, samples, random), random)
 }
 
 fn too_long(motion: &Move) -> bool {
-    Intervals::of(motion).is_ok_and(|found| found.duration() > LARGEST_DURATION)
+    Intervals::of(motion).is_ok_and(|found| found.samples() > MOST_SAMPLES)
 }
 
 /// The move with the least bound that allows a plan (the largest bound if none

@@ -1,9 +1,9 @@
 //! The moves of the paper's table "Moves to check by".
 
 use super::field::with_both_signs;
-use crate::planner::{Move, COUNT_GRAINS};
+use crate::planner::{Move, UNITS_PER_COUNT};
 
-const G: u64 = COUNT_GRAINS as u64;
+const G: u64 = UNITS_PER_COUNT as u64;
 
 /// X, V and A of each row; S = J = G in all of them.
 const ROWS: [(i64, u64, u64); 8] = [

@@ -12,8 +12,8 @@ pub fn any_move(random: &mut SplitMix64) -> Move {
         1..=3 => shortened(random),
         _ => {
             let displacement = displacement(random);
-            let duration = random.between(8, 4200);
-            let motion = move_with(displacement, duration, random);
+            let samples = random.between(8, 4200);
+            let motion = move_with(displacement, samples, random);
             relaxed(&motion, random)
         }
     }

@@ -8,7 +8,7 @@ use super::from_intervals::move_with;
 use super::property::Property;
 use super::random::{displacement, relaxed, with_few_digits};
 use crate::planner::{
-    deciding_searches, Intervals, Move, LARGEST_BOUND, LARGEST_DURATION, SEARCH_COUNT,
+    deciding_searches, Intervals, Move, LARGEST_BOUND, MOST_SAMPLES, SEARCH_COUNT,
 };
 use crate::vectors::splitmix::SplitMix64;
 
@@ -19,7 +19,7 @@ const KEPT: usize = 12;
 const DRAWS: usize = 100_000;
 
 /// Powers of two at which the product is tried: those that a search up to the
-/// longest duration asks at, and larger ones.
+/// most samples asks at, and larger ones.
 const EXPONENTS: [[u32; 2]; 2] = [[0, 11], [12, 17]];
 
 pub fn moves(random: &mut SplitMix64) -> Vec<Move> {
@@ -39,10 +39,10 @@ pub fn moves(random: &mut SplitMix64) -> Vec<Move> {
 
 /// A move with bounds of few binary digits, so that a wrapped product is small,
 /// and often the largest velocity, so that W can be above it.
-fn draw(random: &mut SplitMix64) -> Move {
+pub fn draw(random: &mut SplitMix64) -> Move {
     let displacement = displacement(random);
-    let duration = 8 + random.log_uniform(2_000);
-    let mut motion = relaxed(&move_with(displacement, duration, random), random);
+    let samples = 8 + random.log_uniform(2_000);
+    let mut motion = relaxed(&move_with(displacement, samples, random), random);
     if random.once_in(2) {
         motion.velocity = LARGEST_BOUND;
     }
@@ -60,7 +60,7 @@ fn changed_searches(motion: &Move) -> Vec<(usize, usize)> {
     let Ok(found) = Intervals::of(motion) else {
         return list;
     };
-    if found.duration() > LARGEST_DURATION {
+    if found.samples() > MOST_SAMPLES {
         return list;
     }
     for search in deciding_searches(&found) {

@@ -68,8 +68,8 @@ fn all_planned(random: &mut SplitMix64) -> Text {
 
 fn planned_move(random: &mut SplitMix64) -> Option<Move> {
     let displacement = displacement(random);
-    let duration = 8 + random.log_uniform(4_088);
-    planned(move_with(displacement, duration, random))
+    let samples = 8 + random.log_uniform(4_088);
+    planned(move_with(displacement, samples, random))
 }
 
 /// A move of either direction with the same set that does not go farther.
@@ -80,7 +80,7 @@ fn shorter(base: &Move, random: &mut SplitMix64) -> Option<Move> {
 }
 
 fn planned(motion: Move) -> Option<Move> {
-    plan(&motion).duration().map(|_| motion)
+    plan(&motion).samples().map(|_| motion)
 }
 
 /// The text without the end of this line, and up to a letter in it.

@@ -68,7 +68,7 @@ fn at_longest(random: &mut SplitMix64) -> Vec<Move> {
     let moves = longest::moves(random);
     let lasts = |samples: u128| {
         let found = move |motion: &&Move| {
-            Intervals::of(motion).is_ok_and(|found| found.duration() == samples)
+            Intervals::of(motion).is_ok_and(|found| found.samples() == samples)
         };
         moves.iter().filter(found).take(2).copied()
     };

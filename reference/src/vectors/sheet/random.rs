@@ -47,7 +47,7 @@ fn whole(random: &mut SplitMix64) -> Text {
 }
 
 /// The displacement that the set was made for, in most cases.
-fn displacement(own: i64, random: &mut SplitMix64) -> i64 {
+pub fn displacement(own: i64, random: &mut SplitMix64) -> i64 {
     match random.below(8) {
         0 => -own,
         1 => own / 2,
@@ -79,7 +79,7 @@ fn damaged(random: &mut SplitMix64) -> Text {
 }
 
 /// A byte put in, taken out, changed or doubled.
-fn with_byte_changed(mut text: Text, random: &mut SplitMix64) -> Text {
+pub fn with_byte_changed(mut text: Text, random: &mut SplitMix64) -> Text {
     let bytes = bytes();
     let byte = bytes[random.below(bytes.len() as u64) as usize];
     let place = random.below(text.len() as u64 + 1) as usize;
@@ -93,7 +93,7 @@ fn with_byte_changed(mut text: Text, random: &mut SplitMix64) -> Text {
 }
 
 /// A line dropped, doubled, or exchanged with another.
-fn with_line_changed(text: &[u8], random: &mut SplitMix64) -> Text {
+pub fn with_line_changed(text: &[u8], random: &mut SplitMix64) -> Text {
     let mut lines = lines_of(text);
     let count = lines.len() as u64;
     if count == 0 {

@@ -21,7 +21,7 @@ fn largest_sum(case: &Case, machine: &Machine) -> f64 {
     let mut largest = [0_u64; 4];
     for (snap, state) in Profile::of(&case.request.motion)
         .iter()
-        .flat_map(Profile::samples)
+        .flat_map(Profile::states)
     {
         let values = [snap, state.jerk, state.acceleration, state.velocity];
         for (largest, value) in largest.iter_mut().zip(values) {

@@ -42,7 +42,7 @@ fn places(cases: &[Case]) -> Vec<Condition> {
     for (good, machine) in MACHINES {
         for (k, name) in ["0", "N", "N+1"].into_iter().enumerate() {
             let met = cases.iter().any(|case| {
-                let n = case.plan.duration();
+                let n = case.plan.samples();
                 let few = n.is_some_and(|n| case.request.n == [0, n, n + 1][k]);
                 few && case.machine.is_some() == good
             });
@@ -55,7 +55,7 @@ fn places(cases: &[Case]) -> Vec<Condition> {
 /// Refusal 10 by one number alone.
 fn number(cases: &[Case], place: usize, bits: u64) -> Condition {
     let met = cases.iter().any(|case| {
-        let n = case.plan.duration();
+        let n = case.plan.samples();
         let fits = n.is_some_and(|n| case.request.n >= n + 2);
         let mut numbers = case.request.machine().numbers();
         // 1 is in every range.

@@ -32,7 +32,7 @@ fn short(cases: &[Case], shape: Shape, direction: i64, drive: &str) -> Condition
 }
 
 fn is_longest(case: &Case) -> bool {
-    case.plan.duration() == Some(4_096)
+    case.plan.samples() == Some(4_096)
 }
 
 fn long(cases: &[Case], shape: Shape, drive: &str) -> Condition {

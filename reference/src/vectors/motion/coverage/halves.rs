@@ -6,7 +6,7 @@ use crate::vectors::conditions::Condition;
 use crate::vectors::motion::halves::{above_half, NEAR};
 
 /// From this size on a 64-bit float takes a half for a position that is
-/// `FLOAT_ROOM` grains away from it.
+/// `FLOAT_ROOM` units away from it.
 const LARGE: u64 = 1 << 58;
 const FLOAT_ROOM: i64 = 1 << 5;
 
@@ -21,7 +21,7 @@ fn positions(asked: &Asked) -> Vec<i64> {
     let mut list = Vec::new();
     for (motion, samples) in &asked.samples {
         if let Ok(profile) = Profile::of(motion) {
-            let numbered = profile.samples().zip(0_u64..);
+            let numbered = profile.states().zip(0_u64..);
             let wanted = numbered.filter(|(_, k)| samples.contains(k));
             list.extend(wanted.map(|((_, state), _)| state.position));
         }
@@ -38,7 +38,7 @@ fn for_direction(positions: &[i64], direction: i64) -> [Condition; 4] {
     let large_below = |size, above| size >= LARGE && (-FLOAT_ROOM..0).contains(&above);
     let conditions = [
         ("at a half", met(|_, above| above == 0)),
-        ("one grain below a half", met(|_, above| above == -1)),
+        ("one unit below a half", met(|_, above| above == -1)),
         ("large and just below a half", met(large_below)),
         (
             "just above a half",

@@ -68,7 +68,7 @@ fn extremes(asked: &Asked) -> Vec<Condition> {
 fn too_short(asked: &Asked, kind: Kind) -> [Condition; 2] {
     let met = |places: fn(u64) -> u64| {
         asked.any_request(|request, answer| {
-            let n = answer.duration();
+            let n = answer.samples();
             request.kind == kind && n.is_some_and(|n| request.n == places(n))
         })
     };
@@ -82,7 +82,7 @@ fn too_short(asked: &Asked, kind: Kind) -> [Condition; 2] {
 fn too_late(asked: &Asked) -> [Condition; 3] {
     let met = |late: fn(u64, u64) -> bool| {
         asked.any_request(|request, answer| {
-            let n = answer.duration();
+            let n = answer.samples();
             n.is_some_and(|n| request.samples().any(|k| late(n, k)))
         })
     };

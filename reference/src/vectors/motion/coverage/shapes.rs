@@ -23,7 +23,7 @@ pub fn conditions(asked: &Asked) -> Vec<Condition> {
 /// A short move with all its samples.
 fn short(asked: &Asked, shape: Shape, direction: i64) -> Condition {
     let met = asked.plans.iter().any(|(motion, answer)| {
-        let short = answer.duration().is_some_and(|n| n <= LONGEST);
+        let short = answer.samples().is_some_and(|n| n <= LONGEST);
         let wanted = has_shape(answer, shape) && motion.displacement.signum() == direction;
         short && wanted && asked.is_whole(motion)
     });
@@ -35,12 +35,12 @@ fn short(asked: &Asked, shape: Shape, direction: i64) -> Condition {
 }
 
 /// A long move at all its borders and at the last number of all.
-fn long(asked: &Asked, shape: Shape, durations: RangeInclusive<u64>) -> Condition {
+fn long(asked: &Asked, shape: Shape, samples: RangeInclusive<u64>) -> Condition {
     let met = asked.plans.iter().any(|(motion, answer)| {
-        let long = answer.duration().is_some_and(|n| durations.contains(&n));
+        let long = answer.samples().is_some_and(|n| samples.contains(&n));
         long && has_shape(answer, shape) && at_borders(asked, motion)
     });
-    let (name, from, to) = (shape_name(shape), durations.start(), durations.end());
+    let (name, from, to) = (shape_name(shape), samples.start(), samples.end());
     (format!("borders of {name} with N from {from} to {to}"), met)
 }
 
@@ -62,7 +62,7 @@ fn at_borders(asked: &Asked, motion: &Move) -> bool {
 fn farthest(asked: &Asked, direction: i64) -> Condition {
     let displacement = direction * LARGEST_DISPLACEMENT as i64;
     let met = asked.any_request(|request, answer| {
-        let n = answer.duration();
+        let n = answer.samples();
         let inside = n.is_some_and(|n| request.samples().any(|k| k <= n));
         inside && request.motion.displacement == displacement
     });

@@ -15,7 +15,7 @@ fn of_kind(asked: &Asked, kind: Kind) -> Vec<Condition> {
     let met = |holds: &dyn Fn(u64, i64, u64, u64) -> bool| {
         asked.any_request(|request, answer| {
             let x = request.motion.displacement;
-            let n = answer.duration();
+            let n = answer.samples();
             request.kind == kind && n.is_some_and(|n| holds(n, x, request.n, request.m))
         })
     };

@@ -32,7 +32,7 @@ pub fn conditions(cases: &[Case]) -> Vec<Condition> {
     list.extend((1..=5).map(|number| several(cases, number)));
     for direction in [1, -1] {
         list.extend(planned(cases, direction));
-        list.extend(durations(cases, direction));
+        list.extend(sample_limits(cases, direction));
     }
     list.extend(values(cases));
     list.extend(many(cases));
@@ -69,7 +69,7 @@ fn several(cases: &[Case], number: u8) -> Condition {
     (format!("refusal {number} before a higher number"), met)
 }
 
-/// Every shape, and shortfalls of 0, of some grains and of many.
+/// Every shape, and shortfalls of 0, of some units and of many.
 fn planned(cases: &[Case], direction: i64) -> Vec<Condition> {
     let met = |holds: &dyn Fn(&Answer) -> bool| {
         let own = |motion: &Move| motion.displacement.signum() == direction;
@@ -93,10 +93,10 @@ fn planned(cases: &[Case], direction: i64) -> Vec<Condition> {
     list
 }
 
-fn durations(cases: &[Case], direction: i64) -> [Condition; 2] {
+fn sample_limits(cases: &[Case], direction: i64) -> [Condition; 2] {
     [4_096, 4_097].map(|samples| {
         let met = any_move(cases, |motion, _| {
-            let lasts = Intervals::of(motion).is_ok_and(|found| found.duration() == samples);
+            let lasts = Intervals::of(motion).is_ok_and(|found| found.samples() == samples);
             lasts && motion.displacement.signum() == direction
         });
         (format!("N = {samples} in direction {direction}"), met)

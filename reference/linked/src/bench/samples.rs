@@ -1,0 +1,42 @@
+//! One sample of a move.
+
+use super::contest::{Contest, Timed};
+use super::inputs::moves_of;
+use super::{same, Section};
+use crate::{expected, library};
+use reference::planner::Move;
+use reference::profile::{sample, SampleAnswer};
+
+/// A move and the number of a sample.
+type Ask = (Move, u64);
+
+pub fn section() -> Result<Section, String> {
+    let mut contests = Vec::new();
+    for n in [8, 64, 512, 4096] {
+        contests.extend([at(n, n / 2)?, at(n, n)?]);
+    }
+    Ok(Section {
+        title: "One sample",
+        contests,
+    })
+}
+
+fn at(n: u64, k: u64) -> Result<Box<dyn Timed>, String> {
+    let asks: Vec<Ask> = moves_of(n).into_iter().map(|motion| (motion, k)).collect();
+    for (motion, k) in &asks {
+        let archive = library::sample_move(motion.into(), *k);
+        same("sample", archive, expected::sample(sample(motion, *k)))?;
+    }
+    let what = format!("sample {k} of {n}");
+    let contest = Contest::new(what, Some(k), asks, Box::new(()))
+        .archive(|(motion, k), _| library::sample_move(motion.into(), *k))
+        .against("128-bit planner, iterator", None, |(motion, k), _| {
+            summed(motion, *k)
+        });
+    Ok(contest.ready())
+}
+
+#[inline(never)]
+fn summed(motion: &Move, k: u64) -> SampleAnswer {
+    sample(motion, k)
+}

@@ -1,0 +1,55 @@
+//! The proved library as `include/nitswolan.h` declares it, and its entries as
+//! safe functions over slices.
+
+mod forms;
+mod layout;
+
+pub use layout::{BoundSet, Machine, Move, RouteMove};
+pub use layout::{PlanResult, SampleResult, SheetResult, TableResult};
+pub use layout::{MOST_MOVES, MOST_SETS, REPORT_BYTES};
+
+extern "C" {
+    fn nitswolan_plan_move(motion: Move) -> PlanResult;
+    fn nitswolan_sample_move(motion: Move, sample: u64) -> SampleResult;
+    fn nitswolan_fill_positions(motion: Move, table: *mut i64, places: usize) -> TableResult;
+    fn nitswolan_fill_reference(motion: Move, table: *mut i64, places: usize) -> TableResult;
+    fn nitswolan_fill_force(
+        motion: Move,
+        machine: Machine,
+        table: *mut f64,
+        places: usize,
+    ) -> TableResult;
+    fn nitswolan_read_sheet(text: *const u8, length: usize) -> SheetResult;
+    fn nitswolan_report(text: *const u8, length: usize, report: *mut u8) -> usize;
+}
+
+pub fn plan_move(motion: Move) -> PlanResult {
+    // SAFETY: only values are passed. This holds for `sample_move` too.
+    unsafe { nitswolan_plan_move(motion) }
+}
+
+pub fn sample_move(motion: Move, sample: u64) -> SampleResult {
+    unsafe { nitswolan_sample_move(motion, sample) }
+}
+
+pub fn fill_positions(motion: Move, table: &mut [i64]) -> TableResult {
+    // SAFETY: pointer and length are those of one slice. This holds below too.
+    unsafe { nitswolan_fill_positions(motion, table.as_mut_ptr(), table.len()) }
+}
+
+pub fn fill_reference(motion: Move, table: &mut [i64]) -> TableResult {
+    unsafe { nitswolan_fill_reference(motion, table.as_mut_ptr(), table.len()) }
+}
+
+pub fn fill_force(motion: Move, machine: Machine, table: &mut [f64]) -> TableResult {
+    unsafe { nitswolan_fill_force(motion, machine, table.as_mut_ptr(), table.len()) }
+}
+
+pub fn read_sheet(text: &[u8]) -> SheetResult {
+    unsafe { nitswolan_read_sheet(text.as_ptr(), text.len()) }
+}
+
+/// The number of bytes written to the front of the buffer.
+pub fn report(text: &[u8], buffer: &mut [u8; REPORT_BYTES]) -> usize {
+    unsafe { nitswolan_report(text.as_ptr(), text.len(), buffer.as_mut_ptr()) }
+}
