@@ -1,8 +1,15 @@
 # run: builds `bottlerun` and runs it on a route sheet; another one is named by SHEET=FILE.
 # test: the gate.
+# lib: proves the library and builds the archive that C links, target/staticlib/libnitswolan.a.
+# differential: holds the archive to the reference, TIMES times as long as the gate does; SEED=N draws other inputs.
+# bench: times the archive against the reference.
 SHEET ?= examples/farm.sheet
+TIMES ?= 10
+SEED ?=
 
-.PHONY: run test
+reference = cargo run --offline --quiet --manifest-path reference/Cargo.toml -p linked
+
+.PHONY: run test lib differential bench
 
 run:
 	@mkdir -p target
@@ -11,3 +18,14 @@ run:
 
 test:
 	@./.ci/run
+
+lib:
+	@mkdir -p target
+	@rt staticlib nitswolan > target/lib.log 2>&1 || { cat target/lib.log; exit 1; }
+	@echo target/staticlib/libnitswolan.a
+
+differential: lib
+	@$(reference) --release --bin differential -- --times $(TIMES) $(if $(SEED),--seed $(SEED))
+
+bench: lib
+	@$(reference) --profile speed --bin bench
