@@ -27,7 +27,7 @@ module _ {E : Type 0} (X : ℤ) (V₀ A₀ J₀ S₀ : ℕ) (own : List Check) (
   rule-fills = record { outcome-is = refl; table-is = refl }
 
 module _ (X : ℤ) (V₀ A₀ J₀ S₀ : ℕ) where
-  abbrev ruleSample : ℕ → Result Values
+  abbrev pub ruleSample : ℕ → Result Values
   ruleSample k = sampleWith X V₀ A₀ J₀ S₀ k (count-of (value.position X V₀ A₀ J₀ S₀ k) .count)
 
   pub rule-samples : (k : ℕ) → Samples X V₀ A₀ J₀ S₀ k (ruleSample k)
@@ -36,13 +36,13 @@ module _ (X : ℤ) (V₀ A₀ J₀ S₀ : ℕ) where
       record { count = t .count; count-is = t .is; outcome-is = refl }
 
   -- so demand 3 holds of them
-  abbrev rows : ℕ
+  abbrev pub rows : ℕ
   rows = value.N X V₀ A₀ J₀ S₀ + 1
 
-  abbrev zeros : List ℤ
+  abbrev pub zeros : List ℤ
   zeros = replicate rows (pos 0)
 
-  abbrev positions : List ℤ
+  abbrev pub positions : List ℤ
   positions = ruleTable X V₀ A₀ J₀ S₀ [] rows (value.position X V₀ A₀ J₀ S₀) zeros
 
   pub rule-demand-3 : Accepted X V₀ A₀ J₀ S₀ → Demand3 X V₀ A₀ J₀ S₀ ruleSample positions

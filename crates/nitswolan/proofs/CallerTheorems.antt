@@ -56,7 +56,7 @@ module _ {X : ℤ} {V₀ A₀ J₀ S₀ : ℕ} (x : PlanResult) (h : Plans X V�
         outcome-is = sym (h .outcome-is) ∙ plan-read x r;
       }
 
-  samples : x ≡ planFields (planOutcome x) → x .samples ≡ value.N X V₀ A₀ J₀ S₀
+  pub samples : x ≡ planFields (planOutcome x) → x .samples ≡ value.N X V₀ A₀ J₀ S₀
   samples q = ap (λ (y : PlanResult). y .samples) (q ∙ ap planFields (plan-read x r)) ∙ samples-are entered
 
   filled-all :

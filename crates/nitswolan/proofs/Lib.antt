@@ -7,3 +7,4 @@ pub mod SheetLaws
 -- What the promises come to for the caller.
 pub mod OneAnswer
 pub mod CallerTheorems
+pub mod RuleAnswers
