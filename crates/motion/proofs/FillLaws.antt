@@ -8,6 +8,7 @@ use borrow.Author.Tests.{lt-ltb, le-ltb}
 use lib.Dec.{ltb}
 use lib.IntN.{ℤ}
 use lib.ListN.{length, getD, drop, length-append, List·getD-append}
+use Rattle.planner.specs.Lists.{Each}
 use Rattle.planner.specs.Outcome.{firstRefusal, Outcome, Check, check, Plans}
 use Rattle.planner.specs.Outcome as plan
 use Rattle.motion.specs.Result.{Result, refused, given}
@@ -15,12 +16,11 @@ use Rattle.motion.specs.Tables.{rowsFrom, tableOf, tableResult, Fills}
 use Rattle.motion.specs.Inner.Planned.{RowsIn, WritesRows}
 use Rattle.motion.proofs.EntryLaws.{Entered, refused-first, own-checks}
 
--- none of these checks applies
-abbrev pub Pass : List Check → Type 0
-Pass [] = Unit {0}
-Pass (check n test ∷ own) = (test ≡ false) × Pass own
+-- the check does not apply
+abbrev pub Passes : Check → Type 0
+Passes (check n test) = test ≡ false
 
-all-pass : (own : List Check) (x : Result ℕ) → Pass own → firstRefusal refused own x ≡ x
+all-pass : (own : List Check) (x : Result ℕ) → Each Passes own → firstRefusal refused own x ≡ x
 unfolding firstRefusal
 all-pass [] x p = refl
 all-pass (check n test ∷ own) x p = rw (p .0) (all-pass own x (p .1))
@@ -51,7 +51,7 @@ module _ {E : Type 0} {rows : ℕ} {row : ℕ → E} {old : List E} where
       (own : List Check) {n : ℕ} {new : List E}
       → n ≡ rows
       → rows ≤ length old
-      → Pass own
+      → Each Passes own
       → RowsIn rows row old new
       → WritesRows own rows row old (given n) new
   unfolding firstRefusal tableOf
@@ -102,7 +102,7 @@ module _ {E : Type 0} {rows : ℕ} {row : ℕ → E} {old : List E} where
         {a b c e D s : ℕ} {new : List E} {o : Result ℕ}
         (h : Entered X V₀ A₀ J₀ S₀ a b c e D s)
         (room : rows ≤ length old)
-        (pass : Pass own)
+        (pass : Each Passes own)
         (filled : Fills X V₀ A₀ J₀ S₀ own rows row old o new)
       where
         all-filled : tableResult X V₀ A₀ J₀ S₀ own rows (length old) ≡ given rows

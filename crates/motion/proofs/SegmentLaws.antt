@@ -5,6 +5,7 @@ use mathlib.Core.Path.{_≡_, refl, sym, subst}
 use Prim.Native.Nat.{ℕ, zero, suc, _<_}
 use native.Mathlib.Omega.{arith}
 use lib.IntN.{ℤ, pos}
+use Rattle.planner.specs.Lists.{Each}
 use Rattle.profile.specs.Segments.{level, segments}
 use Rattle.motion.specs.declared.segments.Durations.{Durations}
 use Rattle.motion.specs.declared.snap.Levels.{Levels}
@@ -15,11 +16,7 @@ abbrev pub Among : ℕ → List ℕ → ℕ → Type 0
 Among k [] i = i ≡ k
 Among k (l ∷ ks) i = (i ≡ k) ⊎ Among l ks i
 
-abbrev All : (ℕ → Type 0) → List ℕ → Type 0
-All P [] = Unit {0}
-All P (k ∷ ks) = P k × All P ks
-
-at-key : (P : ℕ → Type 0) (k : ℕ) (ks : List ℕ) (i : ℕ) → Among k ks i → All P (k ∷ ks) → P i
+at-key : (P : ℕ → Type 0) (k : ℕ) (ks : List ℕ) (i : ℕ) → Among k ks i → Each P (k ∷ ks) → P i
 at-key P k [] i h a = subst P (sym h) (a .0)
 at-key P k (l ∷ ks) i h a = ⊎-elim (λ q. subst P (sym q) (a .0)) (λ m. at-key P l ks i m (a .1)) h
 

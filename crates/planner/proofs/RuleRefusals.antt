@@ -6,16 +6,16 @@ use Prim.Native.Nat.{ℕ, _≤_}
 use native.Mathlib.Omega.{arith}
 use lib.IntN.{ℤ}
 use Rattle.planner.specs.Quantities.{distance}
+use Rattle.planner.specs.Lists.{Each}
 use Rattle.planner.specs.Outcome.{Outcome, refused, Check, check, firstRefusal, checks, rulePlan, outcomeOf}
 use Rattle.planner.proofs.Clash.{clash}
 
--- Every check has a number of at most `most`.
-abbrev Numbered : ℕ → List Check → Type 0
-Numbered most [] = Unit {0}
-Numbered most (check number applies ∷ xs) = (number ≤ most) × Numbered most xs
+-- a check has a number of at most `most`
+abbrev NumberMost : ℕ → Check → Type 0
+NumberMost most (check number applies) = number ≤ most
 
 first-most :
-    (most : ℕ) (xs : List Check) (o : Outcome) → Numbered most xs → ((n : ℕ) → o ≡ refused n → n ≤ most) →
+    (most : ℕ) (xs : List Check) (o : Outcome) → Each (NumberMost most) xs → ((n : ℕ) → o ≡ refused n → n ≤ most) →
     (n : ℕ) → firstRefusal refused xs o ≡ refused n → n ≤ most
 unfolding firstRefusal
 first-most most [] o h k n e = k n e

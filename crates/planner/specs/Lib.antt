@@ -9,4 +9,5 @@ pub mod Accepted
 pub mod Answer
 pub mod Facts
 pub mod Starred
+pub mod Lists
 pub mod Inner

@@ -5,8 +5,9 @@ use Prim.Native.Nat.{ℕ, zero, suc, _-_, _≤_}
 use native.Mathlib.Omega.{arith}
 use lib.ListN.{length, take, getD, replicate, length-append, length-replicate}
 use lib.Seq.{take-at}
+use Rattle.planner.specs.Lists.{Each}
 use Rattle.planner.proofs.Clash.{clash}
-use Rattle.route_sheet.specs.Sheet.{Sheet, Within, Each, mostSets, mostMoves, MoveAllowed, SheetAllowed}
+use Rattle.route_sheet.specs.Sheet.{Sheet, Within, mostSets, mostMoves, MoveAllowed, SheetAllowed}
 use Rattle.route_sheet.specs.Result.{Result, refused, refusedAt, given}
 use Rattle.route_sheet.specs.Answer.{Counts, refusal, zeroSet, zeroMove, filled, heldOf}
 use Rattle.route_sheet.specs.Inner.Route.{RouteListed}

@@ -5,7 +5,7 @@ use Prim.Native.Nat.{ℕ, _*_, _≤_}
 use native.Mathlib.Omega.{arith}
 use lib.ListN.{length, length-append}
 use Rattle.route_sheet.specs.Text.{lineEnds}
-use Rattle.route_sheet.specs.Sheet.{Each}
+use Rattle.planner.specs.Lists.{Each}
 use Rattle.route_sheet.specs.SheetText.{joined}
 use Rattle.route_sheet.proofs.TextLaws.{lineEnds-append}
 

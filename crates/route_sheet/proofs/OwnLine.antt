@@ -6,9 +6,10 @@ use Prim.Native.Nat.{ℕ, _≤_, _<_}
 use native.Mathlib.Omega.{arith}
 use borrow.Author.Tests.{le-ltb}
 use lib.ListN.{length}
+use Rattle.planner.specs.Lists.{Each}
 use Rattle.route_sheet.specs.Text.{space, lineEnd, minus, lineEnds}
 use Rattle.route_sheet.specs.Decimal.{decimal, signedDecimal}
-use Rattle.route_sheet.specs.Sheet.{Sheet, Within, Each, mostSets, mostMoves, mostNumber, mostDisplacement}
+use Rattle.route_sheet.specs.Sheet.{Sheet, Within, mostSets, mostMoves, mostNumber, mostDisplacement}
 use Rattle.route_sheet.specs.SheetText.{ended, countLine, setLine, moveLine, joined}
 use Rattle.route_sheet.specs.Result.{mostBytes}
 use Rattle.route_sheet.specs.Reading.{Got, thenRead, isDigit, readNumber, readDisplacement, readSet, readMove, readSecond, readSections, resultOf, readSheet}

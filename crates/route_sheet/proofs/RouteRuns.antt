@@ -7,7 +7,8 @@ use native.Mathlib.Numerals.{add-one}
 use native.Mathlib.Omega.{arith}
 use lib.ListN.{length, take, getD}
 use lib.Seq.{take-suc, length-take-le, getD-take}
-use Rattle.route_sheet.specs.Sheet.{Within, Each, mostSets, mostMoves}
+use Rattle.planner.specs.Lists.{Each}
+use Rattle.route_sheet.specs.Sheet.{Within, mostSets, mostMoves}
 use Rattle.route_sheet.specs.Answer.{zeroMove}
 use Rattle.route_sheet.specs.Report.{moveReport, setOf, outcomeIn, movesReport}
 use Rattle.route_sheet.specs.Inner.Output.{Puts}

@@ -5,7 +5,7 @@ use Prim.Native.Nat.{ℕ, zero, suc}
 use native.Mathlib.Omega.{arith}
 use lib.ListN.{length, getD, drop}
 use Rattle.route_sheet.specs.Text.{lineEnds}
-use Rattle.route_sheet.specs.Sheet.{Each}
+use Rattle.planner.specs.Lists.{Each}
 use Rattle.route_sheet.specs.SheetText.{joined}
 use Rattle.route_sheet.specs.Reading.{Got, readLines}
 use Rattle.route_sheet.proofs.FormatLaws.{Format, some-value, nothing-written}

@@ -5,9 +5,10 @@ use mathlib.Core.Path.{_≡_}
 use Prim.Native.Nat.{ℕ, _+_, _/_, _%_, _^_, _≤_, _<_}
 use lib.IntN.{ℤ, natAbs}
 use lib.ListN.{length}
+use Rattle.planner.specs.Lists.{Each}
 use Rattle.route_sheet.specs.Text.{space, minus, lineEnds}
 use Rattle.route_sheet.specs.Decimal.{digit, decimal, signedDecimal}
-use Rattle.route_sheet.specs.Sheet.{Sheet, Within, Each, mostSets, mostMoves, mostNumber, mostDisplacement, SetAllowed, MoveAllowed, SheetAllowed}
+use Rattle.route_sheet.specs.Sheet.{Sheet, Within, mostSets, mostMoves, mostNumber, mostDisplacement, SetAllowed, MoveAllowed, SheetAllowed}
 use Rattle.route_sheet.specs.SheetText.{ended, countLine, setLine, moveLine, joined, sheetText}
 use Rattle.route_sheet.specs.Result.{Result, refusedAt, given, mostBytes, malformed}
 use Rattle.route_sheet.specs.Beginning.{LongestBeginning, NoSheet, ComesTo}

@@ -1,8 +1,9 @@
 -- What a sheet may list.
-use mathlib.Core.List.{List, [], _∷_}
+use mathlib.Core.List.{List}
 use Prim.Native.Nat.{ℕ, _-_, _^_, _≤_}
 use lib.IntN.{natAbs}
 use lib.ListN.{length}
+use Rattle.planner.specs.Lists.{Each}
 use Rattle.route_sheet.specs.declared.BoundSet.{BoundSet}
 use Rattle.route_sheet.specs.declared.RouteMove.{RouteMove}
 
@@ -15,10 +16,6 @@ pub record Sheet : Type 0 where
 pub record Within (least most n : ℕ) : Type 0 where
   pub from : least ≤ n
   pub to : n ≤ most
-
-abbrev pub Each : {A : Type 0} → (A → Type 0) → List A → Type 0
-Each P [] = Unit {0}
-Each P (x ∷ xs) = P x × Each P xs
 
 abbrev pub mostSets : ℕ
 mostSets = 16

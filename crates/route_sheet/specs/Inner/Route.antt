@@ -2,7 +2,8 @@
 use mathlib.Core.List.{List}
 use Prim.Native.Nat.{ℕ, _≤_}
 use lib.ListN.{length, take}
-use Rattle.route_sheet.specs.Sheet.{Within, Each, mostSets, mostMoves}
+use Rattle.planner.specs.Lists.{Each}
+use Rattle.route_sheet.specs.Sheet.{Within, mostSets, mostMoves}
 use Rattle.route_sheet.specs.declared.RouteMove.{RouteMove}
 
 pub record RouteListed (moves : List RouteMove) (count : ℕ) : Type 0 where
