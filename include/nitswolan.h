@@ -2,13 +2,19 @@
  * nitswolan: moves of a sampling carriage, planned within bounds on velocity, acceleration, jerk and snap.
  *
  * Every function takes all numbers that can be sent to it, returns, uses no heap and keeps no state. An answer's `refusal` is 0 where
- * there is none; at a refusal every other field is 0 (11 also gives its line) and no place of a table is written. Where several refusals
- * apply the lowest is given, but 12 comes before 11. A call may run beside another as long as their tables are different.
+ * there is none; at a refusal every other field is 0 (11 also gives its line) and every place of a table is as it was. Where several
+ * refusals apply the lowest is given, but 12 comes before 11. Calls may run beside each other as long as no table or report buffer of one
+ * overlaps what another is lent.
  *
  * A table or a text of length 0 may be NULL; any other pointer is valid for its length and aligned as its type asks. A call takes at most
  * 512 bytes of stack for a move and 24 KiB for a sheet, besides its answer. From the C library only memcpy, memmove and memset are used.
+ * The archive is for x86-64 Linux.
  *
- * A unit is 2^-40 of a count (a "grain"). N is the number of samples that a move takes: it is at rest at sample 0 and at sample N.
+ * nitswolan_fill_force needs the floating-point state that a C program starts with: rounding to nearest, subnormals kept, no exception
+ * trapped. A program that is linked with -ffast-math or changes this state gets other forces, or a signal. The others use no floats.
+ *
+ * A unit is 2^-40 of a count (a "grain"). N is the number of samples that a move takes: the carriage is at
+ * rest at sample 0 and from sample N on.
  */
 #ifndef NITSWOLAN_H
 #define NITSWOLAN_H
@@ -59,8 +65,9 @@ typedef struct {
   uint64_t snap;
 } nitswolan_move;
 
-/* A machine of two masses: masses m1 and m2, dampings k1, k2 and k12, each 0 to 2^20, and the stiffness c, 2^-20 to 2^20; time is in
- * samples. The drive is rigid if k12 is 0. */
+/* A machine of two masses: masses m1 and m2, dampings k1, k2 and k12, each 0 to 2^20, and the stiffness c, 2^-20 to 2^20. The drive is
+ * rigid if k12 is 0. Time is in samples and length in units, so a force is a mass times units per sample squared: divide it by
+ * NITSWOLAN_UNITS_PER_COUNT for counts. */
 typedef struct {
   double m1;
   double m2;
@@ -107,7 +114,8 @@ typedef struct {
   uint64_t snap;
 } nitswolan_bound_set;
 
-/* A move of a sheet: the displacement in counts, and the number of its set, from 1. */
+/* A move of a sheet: the displacement in counts, and the number of its set, from 1 to set_count; its bounds are sets[set - 1]. In a place
+ * that no move takes, set is 0: look at the first move_count places only. */
 typedef struct {
   int64_t displacement;
   uint64_t set;
@@ -134,20 +142,24 @@ nitswolan_plan_result nitswolan_plan_move(nitswolan_move move);
 /* The values of a move at a sample from 0 to N. Refusals 1 to 7 and 9. */
 nitswolan_sample_result nitswolan_sample_move(nitswolan_move move, uint64_t sample);
 
-/* Fills a table with the positions of a move at samples 0 to N, in units. `places` says how many the table has. Refusals 1 to 8. */
+/* Fills a table with the positions of a move at samples 0 to N, in units. `places` is the length of the table in
+ * elements, not bytes; likewise below. Refusals 1 to 8. */
 nitswolan_table_result nitswolan_fill_positions(nitswolan_move move, int64_t *table, size_t places);
 
-/* Fills a table with the reference rows of a move at samples 0 to N, for the feedback loop. Refusals 1 to 8. */
+/* Fills a table with the reference rows of a move at samples 0 to N, for the feedback loop: the positions in units, undelayed. Refusals 1
+ * to 8. */
 nitswolan_table_result nitswolan_fill_reference(nitswolan_move move, int64_t *table, size_t places);
 
-/* Fills a table with the feedforward forces of a move on a machine, rows 0 to N+1. Refusals 1 to 8 and 10. */
+/* Fills a table with the feedforward forces of a move on a machine, rows 0 to N+1: row k belongs to sample k and is made of values up to
+ * two samples before it, so there is one row more than positions. Refusals 1 to 8 and 10. */
 nitswolan_table_result nitswolan_fill_force(nitswolan_move move, nitswolan_machine machine, double *table, size_t places);
 
-/* Reads the text of a route sheet. Refusals 11 and 12. */
+/* Reads the text of a route sheet. Refusals 11 and 12. The moves are not planned: each may still be refused, 1 to 7. */
 nitswolan_sheet_result nitswolan_read_sheet(const uint8_t *text, size_t length);
 
 /* Writes what `bottlerun` prints of a sheet's text, one line a move or the line of its refusal, and answers how many bytes that is; no
- * zero byte follows them. Every later byte keeps what it held. The text may not lie within the buffer. */
+ * zero byte follows them. Every later byte keeps what it held. The text and the buffer may not overlap, and the buffer may
+ * not be NULL. */
 size_t nitswolan_report(const uint8_t *text, size_t length, nitswolan_report_buffer *report);
 
 #ifdef __cplusplus

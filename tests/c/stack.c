@@ -70,15 +70,45 @@ static size_t most_of(work *todo, unsigned char *stack, int first, int end) {
   return most;
 }
 
+/* 7,431 bytes, the longest sheet: 16 sets and 256 moves, every number with as many digits as it may have. */
+static const char *longest_sheet(void) {
+  static char text[7432];
+  char *end = text;
+  end += sprintf(end, "16\n");
+  for (int k = 0; k < MOST_SETS; k++) {
+    end += sprintf(end, "9999999999999999999 9999999999999999999 9999999999999999999 9999999999999999999\n");
+  }
+  end += sprintf(end, "256\n");
+  for (int k = 0; k < MOST_MOVES; k++) {
+    end += sprintf(end, "-9223372036854775807 16\n");
+  }
+  return text;
+}
+
+/* The most that reading and reporting take, over sheets with plans, with refused moves, and malformed ones. */
+static size_t most_of_sheets(work *todo, unsigned char *stack) {
+  const char *texts[] = {
+    "1\n1099511627776 1099511627776 1099511627776 1099511627776\n2\n-4091 1\n-4092 1\n",
+    longest_sheet(),
+    "1\n1 1 1 1\n1\n-0 1\n",
+  };
+  size_t most = 0;
+  for (size_t k = 0; k < sizeof texts / sizeof *texts; k++) {
+    todo->text = texts[k];
+    const size_t taken = most_of(todo, stack, 5, 7);
+    most = taken > most ? taken : most;
+  }
+  return most;
+}
+
 int main(void) {
   static work todo;
   void *stack = NULL;
   if (posix_memalign(&stack, 4096, STACK) != 0) {
     return 1;
   }
-  todo.text = "1\n1099511627776 1099511627776 1099511627776 1099511627776\n2\n-9223372036854775807 1\n-4092 1\n";
   const size_t move = most_of(&todo, stack, 0, 5);
-  const size_t sheet = most_of(&todo, stack, 5, 7);
+  const size_t sheet = most_of_sheets(&todo, stack);
   printf("stack: %zu bytes for a move, at most %d; %zu for a sheet, at most %d\n", move, FOR_A_MOVE, sheet, FOR_A_SHEET);
   free(stack);
   return move > FOR_A_MOVE || sheet > FOR_A_SHEET;

@@ -1,4 +1,4 @@
-// The published C interface: every library entry under its plain name, over structs that C can read. The refusal of an answer is 0
+// The published C interface: every library entry, with the prefix `nitswolan_`, over structs that C can read. The refusal of an answer is 0
 // where there is none; at a refusal every other field is 0, but for the line of 11.
 mod plan;
 mod sample;
