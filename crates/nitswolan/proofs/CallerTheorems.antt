@@ -10,6 +10,7 @@ use Rattle.planner.specs.Durations.{N}
 use Rattle.planner.specs.Outcome.{Outcome, planned, Plans}
 use Rattle.planner.specs.Outcome as plan
 use Rattle.planner.proofs.Acceptance.{acceptance}
+use Rattle.planner.proofs.Clash.{clash}
 use Rattle.planner.proofs.PlannedFacts.{planned-facts}
 use Rattle.motion.specs.Result.{Result, refused, given}
 use Rattle.motion.specs.Tables.{FillsPositions}
@@ -37,11 +38,11 @@ none-of-plan (suc n) o h = absurd h
 -- the same of what an entry over a plan gives
 none : {A : Type 0} (n : ℕ) (x y : A) → refusedOr refused n (given x) ≡ given y → n ≡ 0
 none zero x y h = refl
-none (suc n) x y h = absurd (let z : _≡_ {A = ℕ} 0 1 = cc in omega arith)
+none (suc n) x y h = absurd (clash cc)
 
 same : {A : Type 0} (n : ℕ) (x y : A) → refusedOr refused n (given x) ≡ given y → x ≡ y
 same zero x y h = cc
-same (suc n) x y h = absurd (let z : _≡_ {A = ℕ} 0 1 = cc in omega arith)
+same (suc n) x y h = absurd (clash cc)
 
 pub accepted-claim : AcceptedClaim
 accepted-claim X V₀ A₀ J₀ S₀ x h =
