@@ -3,16 +3,17 @@ use mathlib.Core.List.{List}
 use mathlib.Core.Path.{_≡_, refl, sym, ap, ap₂, _∙_}
 use Prim.Native.Nat.{ℕ}
 use native.Mathlib.Omega.{arith}
-use lib.IntN.{ℤ}
 use lib.Ieee.{Float}
-use Rattle.planner.specs.Outcome.{Check}
+use Rattle.planner.specs.Result.{Result, Check}
+use Rattle.planner.specs.declared.Move.{Move}
 use Rattle.planner.proofs.Clash.{clash}
+use Rattle.planner.proofs.ResultLaws.{refused-or-given, same-refused, same-given}
 use Rattle.planner.proofs.AnswerLaws as planner
-use Rattle.motion.specs.Result.{Result, refused, given}
-use Rattle.motion.specs.Sampling.{Values, sampleWith, Samples}
+use Rattle.motion.specs.Sampling.{sampleWith, Samples}
 use Rattle.motion.specs.ForceRows.Force.{rigid, filtered}
 use Rattle.motion.specs.Tables.{Fills}
-use Rattle.motion.specs.Answer.{number, driveKind, values, sampleOutcome, tableOutcome}
+use Rattle.motion.specs.Answer.{number, sampleOutcome, tableOutcome}
+use Rattle.motion.specs.Inner.Rows.{driveKind}
 use Rattle.motion.proofs.CountLaws.{one-count}
 use Rattle.motion.specs.declared.Sample.{Sample}
 use Rattle.motion.specs.declared.force.drive.Drive.{Drive}
@@ -42,38 +43,17 @@ number-injective MachineRange ShortTable h = absurd (omega (arith, h))
 number-injective MachineRange PastEnd h = absurd (omega (arith, h))
 number-injective MachineRange MachineRange h = refl
 
--- a refusal is not what was asked for
-apart : {A : Type 0} (n : ℕ) (x : A) → refused n ≡ given x → ⊥
-apart n x h = clash cc
-
-same-number : {A : Type 0} (m n : ℕ) → _≡_ {A = Result A} (refused m) (refused n) → m ≡ n
-same-number m n h = cc
-
-same-given : {A : Type 0} (x y : A) → given x ≡ given y → x ≡ y
-same-given x y h = cc
-
-same-sample : (x y : Sample) → values x ≡ values y → x ≡ y
-same-sample x y h = λ i.
-    record {
-      snap = ap (λ (v : Values). v .snap) h i;
-      jerk = ap (λ (v : Values). v .jerk) h i;
-      acceleration = ap (λ (v : Values). v .acceleration) h i;
-      velocity = ap (λ (v : Values). v .velocity) h i;
-      position = ap (λ (v : Values). v .position) h i;
-      count = ap (λ (v : Values). v .count) h i;
-    }
-
 pub sample-injective : (x y : SampleAnswer) → sampleOutcome x ≡ sampleOutcome y → x ≡ y
-sample-injective (Sampled x) (Sampled y) h = ap Sampled (same-sample x y (same-given (values x) (values y) h))
-sample-injective (Sampled x) (NoSample y) h = absurd (apart (number y) (values x) (sym h))
-sample-injective (NoSample x) (Sampled y) h = absurd (apart (number x) (values y) h)
-sample-injective (NoSample x) (NoSample y) h = ap NoSample (number-injective x y (same-number (number x) (number y) h))
+sample-injective (Sampled x) (Sampled y) h = ap Sampled (same-given h)
+sample-injective (Sampled x) (NoSample y) h = absurd (refused-or-given (number y) x (sym h))
+sample-injective (NoSample x) (Sampled y) h = absurd (refused-or-given (number x) y h)
+sample-injective (NoSample x) (NoSample y) h = ap NoSample (number-injective x y (same-refused h))
 
 pub table-injective : (x y : TableAnswer) → tableOutcome x ≡ tableOutcome y → x ≡ y
-table-injective (Filled x) (Filled y) h = ap Filled (same-given x y h)
-table-injective (Filled x) (NoTable y) h = absurd (apart (number y) x (sym h))
-table-injective (NoTable x) (Filled y) h = absurd (apart (number x) y h)
-table-injective (NoTable x) (NoTable y) h = ap NoTable (number-injective x y (same-number (number x) (number y) h))
+table-injective (Filled x) (Filled y) h = ap Filled (same-given h)
+table-injective (Filled x) (NoTable y) h = absurd (refused-or-given (number y) x (sym h))
+table-injective (NoTable x) (Filled y) h = absurd (refused-or-given (number x) y h)
+table-injective (NoTable x) (NoTable y) h = ap NoTable (number-injective x y (same-refused h))
 
 -- the checked drive: different drives are of different kinds
 kinds-apart : (c alpha beta : Float) → rigid c ≡ filtered alpha beta → ⊥
@@ -92,21 +72,23 @@ drive-injective (Filtered a b) (Rigid y) h = absurd (kinds-apart y a b (sym h))
 drive-injective (Filtered a b) (Filtered c d) h = let same = same-filter a b c d h in ap₂ Filtered (same .0) (same .1)
 
 -- so a promise leaves one answer
-module _ {X : ℤ} {V₀ A₀ J₀ S₀ k : ℕ} where
-  pub one-outcome : {o p : Result Values} → Samples X V₀ A₀ J₀ S₀ k o → Samples X V₀ A₀ J₀ S₀ k p → o ≡ p
-  one-outcome h l =
-      h .outcome-is ∙ ap (sampleWith X V₀ A₀ J₀ S₀ k) (one-count _ _ _ (h .count-is) (l .count-is)) ∙ sym (l .outcome-is)
+module _ {m : Move} {k : ℕ} where
+  pub one-sample-outcome : {o p : Result ℕ Sample} → Samples m k o → Samples m k p → o ≡ p
+  one-sample-outcome h l = h .outcome-is ∙ ap (sampleWith m k) (one-count _ _ _ (h .count-is) (l .count-is)) ∙ sym (l .outcome-is)
 
-  pub one-sample-answer :
-      (x y : SampleAnswer)
-      → Samples X V₀ A₀ J₀ S₀ k (sampleOutcome x)
-      → Samples X V₀ A₀ J₀ S₀ k (sampleOutcome y)
-      → x ≡ y
-  one-sample-answer x y h l = sample-injective x y (one-outcome h l)
+  pub one-sample-answer : (x y : SampleAnswer) → Samples m k (sampleOutcome x) → Samples m k (sampleOutcome y) → x ≡ y
+  one-sample-answer x y h l = sample-injective x y (one-sample-outcome h l)
+
+pub one-table-outcome :
+    {A : Type 0} {m : Move} {rows : ℕ} {own : List Check} {row : ℕ → A} {old new new′ : List A} {o p : Result ℕ ℕ}
+    → Fills m own rows row old o new
+    → Fills m own rows row old p new′
+    → (o ≡ p) × (new ≡ new′)
+one-table-outcome h l = (h .outcome-is ∙ sym (l .outcome-is), h .table-is ∙ sym (l .table-is))
 
 pub one-table-answer :
-    {E : Type 0} {X : ℤ} {V₀ A₀ J₀ S₀ rows : ℕ} {own : List Check} {row : ℕ → E} {old new new′ : List E} (x y : TableAnswer)
-    → Fills X V₀ A₀ J₀ S₀ own rows row old (tableOutcome x) new
-    → Fills X V₀ A₀ J₀ S₀ own rows row old (tableOutcome y) new′
+    {A : Type 0} {m : Move} {rows : ℕ} {own : List Check} {row : ℕ → A} {old new new′ : List A} (x y : TableAnswer)
+    → Fills m own rows row old (tableOutcome x) new
+    → Fills m own rows row old (tableOutcome y) new′
     → (x ≡ y) × (new ≡ new′)
-one-table-answer x y h l = (table-injective x y (h .outcome-is ∙ sym (l .outcome-is)), h .table-is ∙ sym (l .table-is))
+one-table-answer x y h l = let same = one-table-outcome h l in (table-injective x y (same .0), same .1)

@@ -1,38 +1,40 @@
--- Document 01, demand 3, "Bound rules" and "Never turning back", for the numbers of a plan.
+-- Document 01, demand 3, "Bound rules" and "Never turning back", for intervals and a snap that keep the bounds.
 use Prim.Native.Nat.{ℕ, _≤_}
 use native.Mathlib.Nat.{le-trans}
-use lib.IntN.{ℤ, pos, natAbs}
+use lib.IntN.{pos, natAbs}
 use lib.Signed.{_≤ℤ_, _<ℤ_}
+use Rattle.planner.specs.Intervals.{Intervals}
+use Rattle.planner.specs.Inner.Facts.{Ordered, KeepsBounds}
+use Rattle.planner.specs.declared.Move.{Move}
 use Rattle.planner.proofs.DirectionLaws.{size-along, along-forward, along-backward}
 use Rattle.profile.specs.Profile as profile
-use Rattle.motion.specs.Direction as direction
-use Rattle.motion.proofs.KeptRules.{Keeps}
+use Rattle.motion.specs.Sampling.{valuesAt}
 use Rattle.motion.proofs.OrderedLaws.{at}
 
-module _ {X : ℤ} {V₀ A₀ J₀ S₀ a b c e D short : ℕ} (f : Keeps X V₀ A₀ J₀ S₀ a b c e D short) where
+module _ {m : Move} {t : Intervals} {D : ℕ} (o : Ordered t) (f : KeepsBounds m t D) (k : ℕ) where
   -- the four bounds
-  pub snap-bound : (k : ℕ) → natAbs (direction.snap X a b c e D k) ≤ S₀
-  unfolding direction.snap
-  snap-bound k = rw (size-along X (profile.snap _ _ _ _ D k)) (le-trans (at (f .ordered) D k .snap-size) (f .snap))
+  pub snap-bound : natAbs (valuesAt (m .displacement) t D k .snap) ≤ m .snap
+  unfolding valuesAt
+  snap-bound = rw (size-along (m .displacement) (profile.snap _ _ _ _ D k)) (le-trans (at o D k .snap-size) (f .snap))
 
-  pub jerk-bound : (k : ℕ) → natAbs (direction.jerk X a b c e D k) ≤ J₀
-  unfolding direction.jerk
-  jerk-bound k = rw (size-along X (profile.jerk _ _ _ _ D k)) (le-trans (at (f .ordered) D k .jerk-size) (f .jerk))
+  pub jerk-bound : natAbs (valuesAt (m .displacement) t D k .jerk) ≤ m .jerk
+  unfolding valuesAt
+  jerk-bound = rw (size-along (m .displacement) (profile.jerk _ _ _ _ D k)) (le-trans (at o D k .jerk-size) (f .jerk))
 
-  pub acceleration-bound : (k : ℕ) → natAbs (direction.acceleration X a b c e D k) ≤ A₀
-  unfolding direction.acceleration
-  acceleration-bound k =
-      rw (size-along X (profile.acceleration _ _ _ _ D k)) (le-trans (at (f .ordered) D k .acceleration-size) (f .acceleration))
+  pub acceleration-bound : natAbs (valuesAt (m .displacement) t D k .acceleration) ≤ m .acceleration
+  unfolding valuesAt
+  acceleration-bound =
+      rw (size-along (m .displacement) (profile.acceleration _ _ _ _ D k)) (le-trans (at o D k .acceleration-size) (f .acceleration))
 
-  pub velocity-bound : (k : ℕ) → natAbs (direction.velocity X a b c e D k) ≤ V₀
-  unfolding direction.velocity
-  velocity-bound k = rw (size-along X (profile.velocity _ _ _ _ D k)) (le-trans (at (f .ordered) D k .velocity-size) (f .velocity))
+  pub velocity-bound : natAbs (valuesAt (m .displacement) t D k .velocity) ≤ m .velocity
+  unfolding valuesAt
+  velocity-bound = rw (size-along (m .displacement) (profile.velocity _ _ _ _ D k)) (le-trans (at o D k .velocity-size) (f .velocity))
 
   -- never turning back
-  pub forward : pos 0 <ℤ X → (k : ℕ) → pos 0 ≤ℤ direction.velocity X a b c e D k
-  unfolding direction.velocity
-  forward h k = along-forward X _ h (at (f .ordered) D k .forward)
+  pub forward : pos 0 <ℤ m .displacement → pos 0 ≤ℤ valuesAt (m .displacement) t D k .velocity
+  unfolding valuesAt
+  forward h = along-forward (m .displacement) _ h (at o D k .forward)
 
-  pub backward : X <ℤ pos 0 → (k : ℕ) → direction.velocity X a b c e D k ≤ℤ pos 0
-  unfolding direction.velocity
-  backward h k = along-backward X _ h (at (f .ordered) D k .forward)
+  pub backward : m .displacement <ℤ pos 0 → valuesAt (m .displacement) t D k .velocity ≤ℤ pos 0
+  unfolding valuesAt
+  backward h = along-backward (m .displacement) _ h (at o D k .forward)

@@ -5,7 +5,7 @@ use native.Mathlib.Nat.{le-antisymm, le-of-suc-le-suc, lt-of-not-le}
 use native.Mathlib.Omega.{arith}
 use lib.IntN.{ℤ, pos, negsuc, negℤ, natAbs, _+ℤ_, _-ℤ_, negℤ-negℤ}
 use Rattle.planner.specs.Quantities.{unitsPerCount}
-use Rattle.motion.specs.Count.{unitsOf, IsCount}
+use Rattle.motion.specs.Sampling.{unitsOf, IsCount}
 use Rattle.motion.proofs.IntegerLaws.{size-negated, negated-difference, multiple-negated, size-difference}
 
 -- both directions are alike

@@ -1,43 +1,35 @@
 -- What a table entry promises, case by case, for any rule of its rows.
-use mathlib.Core.Bool.{Bool, true, false}
+use mathlib.Core.Bool.{Bool, true}
 use mathlib.Core.List.{List, [], _∷_, _++_}
 use mathlib.Core.Path.{_≡_, refl, sym, ap, ap₂, _∙_, fun-ext}
 use Prim.Native.Nat.{ℕ, zero, suc, _+_, _≤_, _<_}
 use native.Mathlib.Omega.{arith}
 use borrow.Author.Tests.{lt-ltb, le-ltb}
 use lib.Dec.{ltb}
-use lib.IntN.{ℤ}
 use lib.ListN.{length, getD, drop, length-append, List·getD-append}
-use Rattle.planner.specs.Lists.{Each}
-use Rattle.planner.specs.Outcome.{firstRefusal, Outcome, Check, check, Plans}
-use Rattle.planner.specs.Outcome as plan
-use Rattle.motion.specs.Result.{Result, refused, given}
+use Rattle.planner.specs.Result.{Each, Result, refused, given, Check, check, firstRefusal}
+use Rattle.planner.specs.Outcome.{Plans}
+use Rattle.planner.specs.Claims.{Accepted}
+use Rattle.planner.specs.declared.Move.{Move}
+use Rattle.planner.specs.declared.Plan.{Plan}
+use Rattle.planner.proofs.RefusalLaws.{Passes, all-pass}
 use Rattle.motion.specs.Tables.{rowsFrom, tableOf, tableResult, Fills}
-use Rattle.motion.specs.Inner.Planned.{RowsIn, WritesRows}
-use Rattle.motion.proofs.EntryLaws.{Entered, refused-first, own-checks}
+use Rattle.motion.specs.Inner.Planned.{PassedOn, RowsIn, WritesRows}
+use Rattle.motion.proofs.EntryLaws.{refused-first, own-checks}
 
--- the check does not apply
-abbrev pub Passes : Check → Type 0
-Passes (check n test) = test ≡ false
-
-all-pass : (own : List Check) (x : Result ℕ) → Each Passes own → firstRefusal refused own x ≡ x
-unfolding firstRefusal
-all-pass [] x p = refl
-all-pass (check n test ∷ own) x p = rw (p .0) (all-pass own x (p .1))
-
-length-rows : {E : Type 0} (row : ℕ → E) (k n : ℕ) → length (rowsFrom row k n) ≡ n
+length-rows : {A : Type 0} (row : ℕ → A) (k n : ℕ) → length (rowsFrom row k n) ≡ n
 unfolding rowsFrom
 length-rows row k zero = refl
 length-rows row k (suc n) = ap suc (length-rows row (suc k) n)
 
 -- row k of a table
-row-at : {E : Type 0} (row : ℕ → E) (x : E) (j n k : ℕ) → k < n → getD (rowsFrom row j n) k x ≡ row (j + k)
+row-at : {A : Type 0} (row : ℕ → A) (x : A) (j n k : ℕ) → k < n → getD (rowsFrom row j n) k x ≡ row (j + k)
 unfolding rowsFrom
 row-at row x j zero k h = absurd (omega arith)
 row-at row x j (suc n) zero h = ap row (omega arith)
 row-at row x j (suc n) (suc k) h = row-at row x (suc j) n k (omega arith) ∙ ap row (omega arith)
 
-module _ {E : Type 0} {rows : ℕ} {row : ℕ → E} {old : List E} where
+module _ {A : Type 0} {rows : ℕ} {row : ℕ → A} {old : List A} where
   -- a plan and a table: refusal 8, the first of the entry's own, and the rows
   pub short : (own : List Check) → length old < rows → WritesRows own rows row old (refused 8) old
   unfolding firstRefusal tableOf
@@ -48,7 +40,7 @@ module _ {E : Type 0} {rows : ℕ} {row : ℕ → E} {old : List E} where
   own-refused n test l h = record { outcome-is = rw (le-ltb (length old) rows l, h) refl; table-is = refl }
 
   pub written :
-      (own : List Check) {n : ℕ} {new : List E}
+      (own : List Check) {n : ℕ} {new : List A}
       → n ≡ rows
       → rows ≤ length old
       → Each Passes own
@@ -59,56 +51,55 @@ module _ {E : Type 0} {rows : ℕ} {row : ℕ → E} {old : List E} where
       record {
         outcome-is =
             ap given count
-            ∙ sym (ap (λ (t : Bool). firstRefusal refused (check 8 t ∷ own) (given rows)) (le-ltb (length old) rows l)
+            ∙ sym (ap (λ (t : Bool). firstRefusal (check 8 t ∷ own) (given rows)) (le-ltb (length old) rows l)
             ∙ all-pass own (given rows) p);
         table-is = h .table-is ∙ ap (λ (n : ℕ). rowsFrom row 0 rows ++ drop n old) (sym (length-rows row 0 rows));
       }
 
   -- a move and a table
-  module _ {X : ℤ} {V₀ A₀ J₀ S₀ : ℕ} {own : List Check} where
-    pub fills-refused :
-        {n : ℕ} {o : Outcome}
-        → Plans X V₀ A₀ J₀ S₀ o
-        → o ≡ plan.refused n
-        → Fills X V₀ A₀ J₀ S₀ own rows row old (refused n) old
+  module _ {m : Move} {own : List Check} where
+    pub fills-refused : {o : Result ℕ Plan} {p : Result ℕ ℕ} → Plans m o → PassedOn o p → Fills m own rows row old p old
     unfolding tableResult tableOf
-    fills-refused h q =
-        let t = refused-first (check 8 (ltb (length old) rows) ∷ own) rows h q in
-        record { outcome-is = sym t; table-is = sym (ap (λ (r : Result ℕ). tableOf r (rowsFrom row 0 rows) old) t) }
+    fills-refused h passed =
+        let first = refused-first (check 8 (ltb (length old) rows) ∷ own) (given rows) h passed in
+        record {
+          outcome-is = first;
+          table-is = ap (λ (r : Result ℕ ℕ). tableOf r (rowsFrom row 0 rows) old) (sym (passed .refused-with) ∙ first);
+        }
 
     pub fills :
-        {a b c e D s planRows : ℕ} {planRow : ℕ → E} {new : List E} {o : Result ℕ}
-        → Entered X V₀ A₀ J₀ S₀ a b c e D s
+        {planRows : ℕ} {planRow : ℕ → A} {new : List A} {o : Result ℕ ℕ}
+        → Accepted m
         → planRows ≡ rows
         → ((k : ℕ) → planRow k ≡ row k)
         → WritesRows own planRows planRow old o new
-        → Fills X V₀ A₀ J₀ S₀ own rows row old o new
+        → Fills m own rows row old o new
     unfolding tableResult
     fills h count same w =
         let result =
         w .outcome-is
-        ∙ ap (λ (n : ℕ). firstRefusal refused (check 8 (ltb (length old) n) ∷ own) (given n)) count
-        ∙ sym (own-checks h (check 8 (ltb (length old) rows) ∷ own) rows) in
+        ∙ ap (λ (n : ℕ). firstRefusal (check 8 (ltb (length old) n) ∷ own) (given n)) count
+        ∙ sym (own-checks h (check 8 (ltb (length old) rows) ∷ own) (given rows)) in
         record {
           outcome-is = result;
           table-is =
               w .table-is
-              ∙ ap₂ (λ (r : Result ℕ) (rows : List E). tableOf r rows old) result
-              (ap₂ (λ (f : ℕ → E) (n : ℕ). rowsFrom f 0 n) (fun-ext same) count);
+              ∙ ap₂ (λ (r : Result ℕ ℕ) (rows : List A). tableOf r rows old) result
+              (ap₂ (λ (f : ℕ → A) (n : ℕ). rowsFrom f 0 n) (fun-ext same) count);
         }
 
     -- what the table holds where no check applies
     module _
-        {a b c e D s : ℕ} {new : List E} {o : Result ℕ}
-        (h : Entered X V₀ A₀ J₀ S₀ a b c e D s)
+        {new : List A} {o : Result ℕ ℕ}
+        (h : Accepted m)
         (room : rows ≤ length old)
         (pass : Each Passes own)
-        (filled : Fills X V₀ A₀ J₀ S₀ own rows row old o new)
+        (filled : Fills m own rows row old o new)
       where
-        all-filled : tableResult X V₀ A₀ J₀ S₀ own rows (length old) ≡ given rows
+        all-filled : tableResult m own rows (length old) ≡ given rows
         unfolding tableResult
         all-filled =
-            own-checks h (check 8 (ltb (length old) rows) ∷ own) rows
+            own-checks h (check 8 (ltb (length old) rows) ∷ own) (given rows)
             ∙ all-pass (check 8 (ltb (length old) rows) ∷ own) (given rows) (le-ltb (length old) rows room, pass)
 
         pub filled-outcome : o ≡ given rows
@@ -116,7 +107,7 @@ module _ {E : Type 0} {rows : ℕ} {row : ℕ → E} {old : List E} where
 
         filled-table : new ≡ rowsFrom row 0 rows ++ drop (length (rowsFrom row 0 rows)) old
         unfolding tableOf
-        filled-table = filled .table-is ∙ ap (λ (r : Result ℕ). tableOf r (rowsFrom row 0 rows) old) all-filled
+        filled-table = filled .table-is ∙ ap (λ (r : Result ℕ ℕ). tableOf r (rowsFrom row 0 rows) old) all-filled
 
         pub filled-places : rows ≤ length new
         filled-places =
@@ -127,9 +118,9 @@ module _ {E : Type 0} {rows : ℕ} {row : ℕ → E} {old : List E} where
               length-rows row 0 rows,
             )
 
-        pub filled-row : (x : E) (k : ℕ) → k < rows → getD new k x ≡ row k
+        pub filled-row : (x : A) (k : ℕ) → k < rows → getD new k x ≡ row k
         filled-row x k l =
-            ap (λ (t : List E). getD t k x) filled-table
+            ap (λ (t : List A). getD t k x) filled-table
             ∙ List·getD-append (rowsFrom row 0 rows) _ x k (omega (arith, length-rows row 0 rows))
             ∙ row-at row x 0 rows k l
             ∙ ap row (omega arith)

@@ -1,18 +1,19 @@
--- Document 01, demand 3, "Half-count rule", for the numbers of a plan.
+-- Document 01, demand 3, "Half-count rule", for intervals and a snap with a small shortfall.
 use mathlib.Core.Path.{_≡_, refl, ap, _∙_}
-use mathlib.Core.List.{[], _∷_}
 use Prim.Native.Nat.{ℕ, _+_, _*_, _<_, _^_}
 use native.Mathlib.Nat.{not-suc-le-zero}
 use native.Mathlib.Omega.{arith}
 use lib.Dec.{ltb→lt}
 use lib.IntN.{ℤ, pos, negsuc, negℤ, _-ℤ_, _*ℤ_}
 use lib.Signed.{_<ℤ_}
-use Rattle.planner.specs.Quantities.{distance, unitsPerCount}
-use Rattle.planner.specs.Direction.{along}
-use Rattle.planner.specs.Durations.{P}
-use Rattle.profile.specs.Widths.{product, ramp}
+use Rattle.planner.specs.Quantities.{unitsPerCount, along}
+use Rattle.planner.specs.Intervals.{Intervals, P}
+use Rattle.planner.specs.Outcome.{distanceOf}
+use Rattle.planner.specs.declared.Move.{Move}
+use Rattle.profile.specs.Inner.Widths.{product, ramp}
 use Rattle.profile.proofs.HalfCountLaw.{exact-ramp, behind-half}
-use Rattle.motion.specs.Direction as direction
+use Rattle.motion.specs.Sampling.{valuesAt}
+use Rattle.motion.specs.Inner.Planned.{widthsOf}
 use Rattle.motion.proofs.IntegerLaws.{multiple-negated, difference, swapped-difference}
 use Rattle.motion.proofs.KeptRules.{Keeps}
 use Rattle.motion.proofs.OrderedLaws.{at}
@@ -28,40 +29,43 @@ unfolding along
 difference-backward (pos i) m n z h = absurd (not-suc-le-zero (ltb→lt i 0 (h .lt)))
 difference-backward (negsuc i) m n z h = ap (λ x. x -ℤ negℤ (pos z)) (multiple-negated m (pos n)) ∙ swapped-difference (pos (m * n)) (pos z)
 
-module _ {X : ℤ} {V₀ A₀ J₀ S₀ a b c e D short : ℕ} (f : Keeps X V₀ A₀ J₀ S₀ a b c e D short) where
+module _ {m : Move} {t : Intervals} {D short : ℕ} (f : Keeps m t D short) where
+  abbrev X : ℤ
+  X = m .displacement
+
+  abbrev W : ℕ
+  W = distanceOf m
+
   -- the position of a unit snap
   abbrev unitPosition : ℕ → ℕ
-  unitPosition k = ramp a (e ∷ c ∷ b ∷ []) k
+  unitPosition k = ramp (t .a) (widthsOf t) k
 
   -- what the position lacks of the exact profile, times P
-  exact : (k : ℕ) → distance X * unitPosition k ≡ P a b c e * (D * unitPosition k) + short * unitPosition k
+  exact : (k : ℕ) → W * unitPosition k ≡ P t * (D * unitPosition k) + short * unitPosition k
   unfolding product
-  exact k = exact-ramp a (e ∷ c ∷ b ∷ []) (distance X) D short (f .whole) k
+  exact k = exact-ramp (t .a) (widthsOf t) W D short (f .whole) k
 
-  lack : (k : ℕ) → pos (distance X * unitPosition k) -ℤ pos (P a b c e * (D * unitPosition k)) ≡ pos (short * unitPosition k)
-  lack k =
-      difference (distance X * unitPosition k) (P a b c e * (D * unitPosition k)) (omega (arith, exact k)) ∙ ap pos (omega (arith, exact k))
+  lack : (k : ℕ) → pos (W * unitPosition k) -ℤ pos (P t * (D * unitPosition k)) ≡ pos (short * unitPosition k)
+  lack k = difference (W * unitPosition k) (P t * (D * unitPosition k)) (omega (arith, exact k)) ∙ ap pos (omega (arith, exact k))
 
-  place : (size k : ℕ) → direction.position X a b c e size k ≡ along X (pos (size * unitPosition k))
-  unfolding direction.position
+  place : (size k : ℕ) → valuesAt X t size k .position ≡ along X (pos (size * unitPosition k))
+  unfolding valuesAt
   place size k = ap (along X) (at (f .ordered) size k .position-is)
 
   pub lack-forward :
       pos 0 <ℤ X
       → (k : ℕ)
-      → direction.position X a b c e (distance X) k -ℤ pos (P a b c e) *ℤ direction.position X a b c e D k ≡ pos (short * unitPosition k)
-  lack-forward h k =
-      rw (place (distance X) k, place D k) (difference-forward X (P a b c e) (D * unitPosition k) (distance X * unitPosition k) h ∙ lack k)
+      → valuesAt X t W k .position -ℤ pos (P t) *ℤ valuesAt X t D k .position ≡ pos (short * unitPosition k)
+  lack-forward h k = rw (place W k, place D k) (difference-forward X (P t) (D * unitPosition k) (W * unitPosition k) h ∙ lack k)
 
   pub lack-backward :
       X <ℤ pos 0
       → (k : ℕ)
-      → pos (P a b c e) *ℤ direction.position X a b c e D k -ℤ direction.position X a b c e (distance X) k ≡ pos (short * unitPosition k)
-  lack-backward h k =
-      rw (place (distance X) k, place D k) (difference-backward X (P a b c e) (D * unitPosition k) (distance X * unitPosition k) h ∙ lack k)
+      → pos (P t) *ℤ valuesAt X t D k .position -ℤ valuesAt X t W k .position ≡ pos (short * unitPosition k)
+  lack-backward h k = rw (place W k, place D k) (difference-backward X (P t) (D * unitPosition k) (W * unitPosition k) h ∙ lack k)
 
   -- it is less than half a count
-  pub below-half : (k : ℕ) → 2 * (short * unitPosition k) < unitsPerCount * P a b c e
+  pub below-half : (k : ℕ) → 2 * (short * unitPosition k) < unitsPerCount * P t
   unfolding product
   below-half k =
-      omega (arith, behind-half a (e ∷ c ∷ b ∷ []) (distance X) D short (f .whole) k (2 ^ 39) (f .short-below) (f .product-most))
+      omega (arith, behind-half (t .a) (widthsOf t) W D short (f .whole) k (2 ^ 39) (f .short-below) (f .product-most))

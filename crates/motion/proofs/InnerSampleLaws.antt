@@ -5,7 +5,7 @@ use mathlib.Core.Path.{_≡_, ap}
 use Prim.Native.Nat.{ℕ, _-_, _≤_, _<_}
 use borrow.Author.Tests.{lt-ltb, le-ltb}
 use lib.IntN.{ℤ, pos}
-use Rattle.profile.specs.Widths.{snapBy}
+use Rattle.profile.specs.Inner.Widths.{snapBy}
 use Rattle.motion.specs.Inner.InnerSamples.{SameSnap}
 
 pub before : (w : ℕ) (u v : ℤ) (k : ℕ) → k < w → SameSnap w u v k u v k

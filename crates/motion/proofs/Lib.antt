@@ -30,5 +30,6 @@ pub mod SumsFromRest
 pub mod BoundRules
 pub mod HalfCountRule
 pub mod EndRule
+pub mod KeptLaws
 pub mod Demand3
 pub mod RuleAnswers

@@ -5,9 +5,10 @@ use Prim.Native.Nat.{ℕ, zero, suc, _+_, _<_}
 use native.Mathlib.Omega.{arith}
 use lib.IntN.{ℤ, pos, negsuc, negℤ}
 use lib.ListN.{length, replicate, length-append, length-replicate}
-use Rattle.profile.specs.Segments.{level, Sign, positive, none, negative, Segment, segment, signed, snapIn}
+use Rattle.profile.specs.Profile.{level, Sign, positive, none, negative, Segment, segment, snapIn}
+use Rattle.profile.specs.Inner.Widths.{snapWith}
 use Rattle.profile.proofs.Lookup.{samples, snap-first, snap-next}
-use Rattle.planner.specs.Direction.{along}
+use Rattle.planner.specs.Quantities.{along}
 use Rattle.motion.specs.Inner.SegmentSnaps.{snapsOf}
 
 -- the list holds what f gives from k on
@@ -29,8 +30,8 @@ listed-equal (suc n) x f k h = (
 )
 
 -- the level of a segment is its snap in the direction of X
-level-along : (X : ℤ) (sign : Sign) (D : ℕ) → along X (signed sign D) ≡ level sign (along X (pos D)) (negℤ (along X (pos D)))
-unfolding along signed level
+level-along : (X : ℤ) (sign : Sign) (D : ℕ) → along X (snapWith sign D) ≡ level sign (along X (pos D)) (negℤ (along X (pos D)))
+unfolding along level
 level-along (pos n) positive D = refl
 level-along (pos n) none D = refl
 level-along (pos n) negative D = refl

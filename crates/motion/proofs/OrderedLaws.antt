@@ -1,18 +1,18 @@
 -- The laws of the profile, for intervals that follow each other.
-use mathlib.Core.List.{[], _∷_}
 use Prim.Native.Nat.{ℕ, _≤_}
-use Rattle.planner.specs.Durations.{N}
-use Rattle.planner.specs.Facts.{Ordered}
-use Rattle.profile.specs.Widths.{Spread}
-use Rattle.profile.specs.Facts.{At, AtEnd}
+use Rattle.planner.specs.Intervals.{Intervals, N}
+use Rattle.planner.specs.Inner.Facts.{Ordered}
+use Rattle.profile.specs.Inner.Widths.{Spread}
+use Rattle.profile.specs.Inner.Facts.{At, AtEnd}
 use Rattle.profile.proofs.FourthOrder as fourth
+use Rattle.motion.specs.Inner.Planned.{widthsOf}
 
-module _ {a b c e : ℕ} (o : Ordered a b c e) where
-  pub spread : Spread a (e ∷ c ∷ b ∷ [])
-  spread = fourth.spread a b c e (o .a-b) (o .ab-c) (o .abc-e)
+module _ {t : Intervals} (o : Ordered t) where
+  pub spread : Spread (t .a) (widthsOf t)
+  spread = fourth.spread (t .a) (t .b) (t .c) (t .e) (o .a-b) (o .ab-c) (o .abc-e)
 
-  pub at : (size k : ℕ) → At a b c e size k
-  at = fourth.fourth-order a b c e (o .a-b) (o .ab-c) (o .abc-e)
+  pub at : (size k : ℕ) → At (t .a) (t .b) (t .c) (t .e) size k
+  at = fourth.fourth-order (t .a) (t .b) (t .c) (t .e) (o .a-b) (o .ab-c) (o .abc-e)
 
-  pub at-end : (size k : ℕ) → N a b c e ≤ k → AtEnd a b c e size k
-  at-end = fourth.fourth-order-end a b c e (o .a-b) (o .ab-c) (o .abc-e)
+  pub at-end : (size k : ℕ) → N t ≤ k → AtEnd (t .a) (t .b) (t .c) (t .e) size k
+  at-end = fourth.fourth-order-end (t .a) (t .b) (t .c) (t .e) (o .a-b) (o .ab-c) (o .abc-e)

@@ -11,7 +11,7 @@ use lib.Signed.{leZ, quotZ, remZ, mag, natAbs-le}
 use mir.Syntax.{w64}
 use mir.Val.{SFits}
 use Rattle.planner.specs.Quantities.{unitsPerCount}
-use Rattle.motion.specs.Count.{IsCount}
+use Rattle.motion.specs.Sampling.{IsCount}
 use Rattle.motion.proofs.CountLaws.{mirrored, above-half, below-half, count-size}
 
 abbrev pub half : ℕ

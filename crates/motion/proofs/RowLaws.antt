@@ -12,12 +12,12 @@ use Rattle.motion.specs.Inner.Runs.{Writer, stored, StepsFit}
 use Rattle.motion.proofs.ListedLaws.{Listed}
 
 -- what is carried along at each sample, where the snap is f
-pub record Carries {S E : Type 0} (w : Writer S E) (f : ℕ → ℤ) (at : ℕ → S) : Type 0 where
+pub record Carries {S A : Type 0} (w : Writer S A) (f : ℕ → ℤ) (at : ℕ → S) : Type 0 where
   pub next : (k : ℕ) → w .step (at k) (f k) ≡ at (suc k)
   pub place-is : (k : ℕ) → w .place (at k) ≡ k
 
-module _ {S E : Type 0} {w : Writer S E} {f : ℕ → ℤ} {at : ℕ → S} (carries : Carries w f at) where
-  abbrev rowAt : ℕ → E
+module _ {S A : Type 0} {w : Writer S A} {f : ℕ → ℤ} {at : ℕ → S} (carries : Carries w f at) where
+  abbrev rowAt : ℕ → A
   rowAt k = w .row (at k)
 
   step-to : (k : ℕ) (x : ℤ) → x ≡ f k → w .step (at k) x ≡ at (suc k)
@@ -35,7 +35,7 @@ module _ {S E : Type 0} {w : Writer S E} {f : ℕ → ℤ} {at : ℕ → S} (car
   stored-from :
       (xs : List ℤ) (k : ℕ)
       → Listed xs f k
-      → (done rest : List E)
+      → (done rest : List A)
       → length done ≡ k
       → length xs ≤ length rest
       → stored w xs (at k) (done ++ rest) ≡ done ++ (rowsFrom rowAt k (length xs) ++ drop (length xs) rest)
@@ -55,7 +55,7 @@ module _ {S E : Type 0} {w : Writer S E} {f : ℕ → ℤ} {at : ℕ → S} (car
   pub stored-rows :
       (xs : List ℤ)
       → Listed xs f 0
-      → (table : List E)
+      → (table : List A)
       → length xs ≤ length table
       → stored w xs (at 0) table ≡ rowsFrom rowAt 0 (length xs) ++ drop (length xs) table
   stored-rows xs h table l = stored-from xs 0 h [] table refl l

@@ -5,48 +5,49 @@ use Prim.Native.Nat.{ℕ, _+_}
 use native.Mathlib.Nat.{le-of-eq}
 use lib.IntN.{ℤ, pos}
 use lib.ListN.{length, replicate, length-replicate}
-use Rattle.planner.specs.Outcome.{Check}
-use Rattle.planner.specs.Accepted.{Accepted}
-use Rattle.motion.specs.Values as value
-use Rattle.motion.specs.Result.{Result}
-use Rattle.motion.specs.Sampling.{Values, sampleWith, Samples}
+use Rattle.planner.specs.Result.{Result, Check}
+use Rattle.planner.specs.Outcome.{samplesOf}
+use Rattle.planner.specs.Claims.{Accepted}
+use Rattle.planner.specs.declared.Move.{Move}
+use Rattle.motion.specs.Sampling.{valuesOf, sampleWith, Samples}
 use Rattle.motion.specs.Tables.{rowsFrom, tableOf, tableResult, Fills, FillsPositions}
 use Rattle.motion.specs.Demand3.{Demand3}
+use Rattle.motion.specs.declared.Sample.{Sample}
 use Rattle.motion.proofs.RoundingLaws.{count-of}
-use Rattle.motion.proofs.Demand3.{demand-3}
+use Rattle.motion.proofs.Demand3.{ruleCount, demand-3}
 
 -- the outcome and the table of the rule itself, for any rule of rows
-module _ {E : Type 0} (X : ℤ) (V₀ A₀ J₀ S₀ : ℕ) (own : List Check) (rows : ℕ) (row : ℕ → E) (old : List E) where
-  abbrev pub ruleResult : Result ℕ
-  ruleResult = tableResult X V₀ A₀ J₀ S₀ own rows (length old)
+module _ {A : Type 0} (m : Move) (own : List Check) (rows : ℕ) (row : ℕ → A) (old : List A) where
+  abbrev pub ruleResult : Result ℕ ℕ
+  ruleResult = tableResult m own rows (length old)
 
-  abbrev pub ruleTable : List E
+  abbrev pub ruleTable : List A
   ruleTable = tableOf ruleResult (rowsFrom row 0 rows) old
 
-  pub rule-fills : Fills X V₀ A₀ J₀ S₀ own rows row old ruleResult ruleTable
+  pub rule-fills : Fills m own rows row old ruleResult ruleTable
   rule-fills = record { outcome-is = refl; table-is = refl }
 
-module _ (X : ℤ) (V₀ A₀ J₀ S₀ : ℕ) where
-  abbrev pub ruleSample : ℕ → Result Values
-  ruleSample k = sampleWith X V₀ A₀ J₀ S₀ k (count-of (value.position X V₀ A₀ J₀ S₀ k) .count)
+module _ (m : Move) where
+  abbrev pub ruleSample : ℕ → Result ℕ Sample
+  ruleSample k = sampleWith m k (ruleCount m k)
 
-  pub rule-samples : (k : ℕ) → Samples X V₀ A₀ J₀ S₀ k (ruleSample k)
+  pub rule-samples : (k : ℕ) → Samples m k (ruleSample k)
   rule-samples k =
-      let t = count-of (value.position X V₀ A₀ J₀ S₀ k) in
+      let t = count-of (valuesOf m k .position) in
       record { count = t .count; count-is = t .is; outcome-is = refl }
 
   -- so demand 3 holds of them
   abbrev pub rows : ℕ
-  rows = value.N X V₀ A₀ J₀ S₀ + 1
+  rows = samplesOf m + 1
 
   abbrev pub zeros : List ℤ
   zeros = replicate rows (pos 0)
 
   abbrev pub positions : List ℤ
-  positions = ruleTable X V₀ A₀ J₀ S₀ [] rows (value.position X V₀ A₀ J₀ S₀) zeros
+  positions = ruleTable m [] rows (λ k. valuesOf m k .position) zeros
 
-  pub rule-demand-3 : Accepted X V₀ A₀ J₀ S₀ → Demand3 X V₀ A₀ J₀ S₀ ruleSample positions
+  pub rule-demand-3 : Accepted m → Demand3 m ruleSample positions
   unfolding FillsPositions
   rule-demand-3 h =
-      demand-3 X V₀ A₀ J₀ S₀ h ruleSample (λ k l. rule-samples k) zeros positions _ (le-of-eq (sym (length-replicate rows (pos 0))))
-      (rule-fills X V₀ A₀ J₀ S₀ [] rows (value.position X V₀ A₀ J₀ S₀) zeros)
+      demand-3 m h ruleSample (λ k l. rule-samples k) zeros positions _ (le-of-eq (sym (length-replicate rows (pos 0))))
+      (rule-fills m [] rows (λ k. valuesOf m k .position) zeros)

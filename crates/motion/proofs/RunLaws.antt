@@ -10,20 +10,20 @@ use Rattle.motion.specs.Inner.Runs.{Writer, after, stored, StepsFit, Can
 
 -- what is left to do: the steps xs from s, on this table, come to the same as those that were asked for
 pub record Remaining
-    {S E : Type 0} (w : Writer S E) (xs : List ℤ) (s : S) (table : List E) (ys : List ℤ) (s₀ : S) (table₀ : List E)
+    {S A : Type 0} (w : Writer S A) (xs : List ℤ) (s : S) (table : List A) (ys : List ℤ) (s₀ : S) (table₀ : List A)
     : Type 0 where
   pub can : CanRun w xs s (length table)
   pub same-length : length table ≡ length table₀
   pub table-is : stored w xs s table ≡ stored w ys s₀ table₀
   pub end-is : after w xs s ≡ after w ys s₀
 
-module _ {S E : Type 0} {w : Writer S E} where
-  pub all-left : {xs : List ℤ} {s : S} {table : List E} → CanRun w xs s (length table) → Remaining w xs s table xs s table
+module _ {S A : Type 0} {w : Writer S A} where
+  pub all-left : {xs : List ℤ} {s : S} {table : List A} → CanRun w xs s (length table) → Remaining w xs s table xs s table
   all-left h = record { can = h; same-length = refl; table-is = refl; end-is = refl }
 
-  module _ {ys : List ℤ} {s₀ : S} {table₀ : List E} where
+  module _ {ys : List ℤ} {s₀ : S} {table₀ : List A} where
     pub one-done :
-        {x : ℤ} {xs : List ℤ} {s : S} {table : List E}
+        {x : ℤ} {xs : List ℤ} {s : S} {table : List A}
         → Remaining w (x ∷ xs) s table ys s₀ table₀
         → Remaining w xs (w .step s x) (set table (w .place s) (w .row s)) ys s₀ table₀
     unfolding after stored StepsFit
@@ -39,17 +39,17 @@ module _ {S E : Type 0} {w : Writer S E} where
           end-is = h .end-is;
         }
 
-    pub first-fits : {x : ℤ} {xs : List ℤ} {s : S} {table : List E} → Remaining w (x ∷ xs) s table ys s₀ table₀ → w .Fits s x
+    pub first-fits : {x : ℤ} {xs : List ℤ} {s : S} {table : List A} → Remaining w (x ∷ xs) s table ys s₀ table₀ → w .Fits s x
     unfolding StepsFit
     first-fits h = h .can .fits .0
 
-    pub none-left : {s : S} {table : List E} → Remaining w [] s table ys s₀ table₀ → Ran w ys s₀ table₀ table s
+    pub none-left : {s : S} {table : List A} → Remaining w [] s table ys s₀ table₀ → Ran w ys s₀ table₀ table s
     unfolding after stored
     none-left h = record { table-is = h .table-is; end-is = h .end-is }
 
     -- one of n equal snaps
     pub one-of :
-        (n : ℕ) (x : ℤ) {s : S} {table : List E}
+        (n : ℕ) (x : ℤ) {s : S} {table : List A}
         → 0 < n
         → Remaining w (replicate n x) s table ys s₀ table₀
         → Remaining w (x ∷ replicate (n - 1) x) s table ys s₀ table₀
@@ -59,15 +59,15 @@ module _ {S E : Type 0} {w : Writer S E} where
         subst (λ (m : ℕ). Remaining w (x ∷ replicate m x) s table ys s₀ table₀) one h
 
     pub none-of :
-        (n : ℕ) (x : ℤ) {s : S} {table : List E}
+        (n : ℕ) (x : ℤ) {s : S} {table : List A}
         → n ≤ 0
         → Remaining w (replicate n x) s table ys s₀ table₀
         → Ran w ys s₀ table₀ table s
     none-of zero x l h = none-left h
     none-of (suc n) x l h = absurd (not-suc-le-zero l)
 
-module _ {S E : Type 0} (w : Writer S E) where
-  length-stored : (xs : List ℤ) (s : S) (table : List E) → length (stored w xs s table) ≡ length table
+module _ {S A : Type 0} (w : Writer S A) where
+  length-stored : (xs : List ℤ) (s : S) (table : List A) → length (stored w xs s table) ≡ length table
   unfolding stored
   length-stored [] s table = refl
   length-stored (x ∷ xs) s table =
@@ -79,7 +79,7 @@ module _ {S E : Type 0} (w : Writer S E) where
   after-joined [] ys s = refl
   after-joined (x ∷ xs) ys s = after-joined xs ys (w .step s x)
 
-  stored-joined : (xs ys : List ℤ) (s : S) (table : List E) → stored w (xs ++ ys) s table ≡ stored w ys (after w xs s) (stored w xs s table)
+  stored-joined : (xs ys : List ℤ) (s : S) (table : List A) → stored w (xs ++ ys) s table ≡ stored w ys (after w xs s) (stored w xs s table)
   unfolding after stored
   stored-joined [] ys s table = refl
   stored-joined (x ∷ xs) ys s table = stored-joined xs ys (w .step s x) (set table (w .place s) (w .row s))
@@ -94,8 +94,8 @@ module _ {S E : Type 0} (w : Writer S E) where
   place-after [] s = omega arith
   place-after (x ∷ xs) s = omega (arith, place-after xs (w .step s x), w .next-place s x)
 
-module _ {S E : Type 0} {w : Writer S E} where
-  pub ran-length : {xs : List ℤ} {s : S} {old new : List E} {end : S} → Ran w xs s old new end → length new ≡ length old
+module _ {S A : Type 0} {w : Writer S A} where
+  pub ran-length : {xs : List ℤ} {s : S} {old new : List A} {end : S} → Ran w xs s old new end → length new ≡ length old
   ran-length {xs} {s} {old} h = ap length (h .table-is) ∙ length-stored w xs s old
 
   can-back : (xs ys : List ℤ) {s : S} {n : ℕ} → CanRun w (xs ++ ys) s n → CanRun w ys (after w xs s) n
@@ -103,7 +103,7 @@ module _ {S E : Type 0} {w : Writer S E} where
       record { room = omega (arith, h .room, length-append xs ys, place-after w xs s); fits = fits-parted w xs ys s (h .fits) .1 }
 
   -- the first part of what is left
-  module _ (xs ys : List ℤ) {zs : List ℤ} {s s₀ : S} {table table₀ : List E} (h : Remaining w (xs ++ ys) s table zs s₀ table₀) where
+  module _ (xs ys : List ℤ) {zs : List ℤ} {s s₀ : S} {table table₀ : List A} (h : Remaining w (xs ++ ys) s table zs s₀ table₀) where
     pub can-part : CanRun w xs s (length table)
     can-part =
         record {
@@ -111,7 +111,7 @@ module _ {S E : Type 0} {w : Writer S E} where
           fits = fits-parted w xs ys s (h .can .fits) .0;
         }
 
-    pub part-done : {t : S} {new : List E} → Ran w xs s table new t → Remaining w ys t new zs s₀ table₀
+    pub part-done : {t : S} {new : List A} → Ran w xs s table new t → Remaining w ys t new zs s₀ table₀
     part-done {t} {new} r =
         record {
           can = rw (ran-length r, r .end-is) (can-back xs ys (h .can));

@@ -5,8 +5,8 @@ use mathlib.Core.Path.{_≡_, refl, sym, subst}
 use Prim.Native.Nat.{ℕ, zero, suc, _<_}
 use native.Mathlib.Omega.{arith}
 use lib.IntN.{ℤ, pos}
-use Rattle.planner.specs.Lists.{Each}
-use Rattle.profile.specs.Segments.{level, segments}
+use Rattle.planner.specs.Result.{Each}
+use Rattle.profile.specs.Profile.{level, segments}
 use Rattle.motion.specs.declared.segments.Durations.{Durations}
 use Rattle.motion.specs.declared.snap.Levels.{Levels}
 use Rattle.motion.specs.Inner.SegmentSnaps.{snapsOf, NextSegment}
@@ -51,16 +51,16 @@ module _ (d : Durations) (levels : Levels) where
   abbrev At : (samples : ℕ) (snap : ℤ) → ℕ → Type 0
   At samples snap i = NextSegment d levels i (record { samples = samples; snap = snap })
 
-  pub with-plus : (i : ℕ) → Among 0 (6 ∷ 10 ∷ 12 ∷ []) i → At (d .p) (levels .up) i
+  pub with-plus : (i : ℕ) → Among 0 (6 ∷ 10 ∷ 12 ∷ []) i → At (d .p) (levels .positive) i
   unfolding segments level snapsOf
   with-plus i h =
-      at-key (At (d .p) (levels .up)) 0 (6 ∷ 10 ∷ 12 ∷ []) i h
+      at-key (At (d .p) (levels .positive)) 0 (6 ∷ 10 ∷ 12 ∷ []) i h
       (record { splits = refl }, (record { splits = refl }, (record { splits = refl }, (record { splits = refl }, tt))))
 
-  pub with-minus : (i : ℕ) → Among 2 (4 ∷ 8 ∷ 14 ∷ []) i → At (d .p) (levels .down) i
+  pub with-minus : (i : ℕ) → Among 2 (4 ∷ 8 ∷ 14 ∷ []) i → At (d .p) (levels .negative) i
   unfolding segments level snapsOf
   with-minus i h =
-      at-key (At (d .p) (levels .down)) 2 (4 ∷ 8 ∷ 14 ∷ []) i h
+      at-key (At (d .p) (levels .negative)) 2 (4 ∷ 8 ∷ 14 ∷ []) i h
       (record { splits = refl }, (record { splits = refl }, (record { splits = refl }, (record { splits = refl }, tt))))
 
   pub lasting-q : (i : ℕ) → Among 1 (5 ∷ 9 ∷ 13 ∷ []) i → At (d .q) (pos 0) i
@@ -77,6 +77,6 @@ module _ (d : Durations) (levels : Levels) where
   unfolding segments level snapsOf
   lasting-s i h = at-key (At (d .s) (pos 0)) 7 [] i h (record { splits = refl }, tt)
 
-  pub lasting-more : (i : ℕ) → Among 15 [] i → At (d .more) (pos 0) i
+  pub lasting-trailing : (i : ℕ) → Among 15 [] i → At (d .trailing) (pos 0) i
   unfolding segments level snapsOf
-  lasting-more i h = at-key (At (d .more) (pos 0)) 15 [] i h (record { splits = refl }, tt)
+  lasting-trailing i h = at-key (At (d .trailing) (pos 0)) 15 [] i h (record { splits = refl }, tt)

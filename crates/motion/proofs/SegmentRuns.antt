@@ -5,7 +5,8 @@ use Prim.Native.Nat.{ℕ, _+_, _≤_, _<_}
 use native.Mathlib.Omega.{arith}
 use lib.IntN.{ℤ}
 use lib.ListN.{length, drop, replicate}
-use Rattle.profile.specs.Segments.{segments}
+use Rattle.planner.specs.Intervals.{Intervals}
+use Rattle.profile.specs.Profile.{segments}
 use Rattle.motion.specs.declared.segments.Durations.{Durations}
 use Rattle.motion.specs.declared.segments.Segment.{Segment}
 use Rattle.motion.specs.declared.snap.Levels.{Levels}
@@ -18,38 +19,38 @@ use Rattle.motion.proofs.TableLaws.{run}
 
 -- the snaps from segment i on
 abbrev pub snapsFrom : Durations → Levels → (i : ℕ) → List ℤ
-snapsFrom d levels i = snapsOf (drop i (segmentsOf d)) (levels .up) (levels .down)
+snapsFrom d levels i = snapsOf (drop i (segmentsOf d)) (levels .positive) (levels .negative)
 
 -- segment i comes next, and what is left comes to the same as the whole
 pub record SegmentsLeft
-    {S E : Type 0} (w : Writer S E) (d : Durations) (levels : Levels) (s₀ : S) (table₀ : List E) (i : ℕ) (s : S) (table : List E)
+    {S A : Type 0} (w : Writer S A) (d : Durations) (levels : Levels) (s₀ : S) (table₀ : List A) (i : ℕ) (s : S) (table : List A)
     : Type 0 where
   pub number : i ≤ 16
   pub remaining : Remaining w (snapsFrom d levels i) s table (snapsFrom d levels 0) s₀ table₀
 
 -- the segments are those of the plan
 module _
-    {X : ℤ} {a b c e D more : ℕ} {d : Durations} {levels : Levels}
-    (h : WithinRange a b c e D) (lengths : IsDurations a b c e more d) (sizes : AreLevels X D levels)
+    {X : ℤ} {t : Intervals} {D trailing : ℕ} {d : Durations} {levels : Levels}
+    (h : WithinRange t D) (lengths : IsDurations t trailing d) (sizes : AreLevels X D levels)
   where
-    whole-run : snapsFrom d levels 0 ≡ run X a b c e D h more
-    whole-run = rw (sizes .up-is, sizes .down-is, lengths .p-is, lengths .q-is, lengths .r-is, lengths .s-is, lengths .more-is) refl
+    whole-run : snapsFrom d levels 0 ≡ run X t D h trailing
+    whole-run = rw (sizes .positive-is, sizes .negative-is, lengths .p-is, lengths .q-is, lengths .r-is, lengths .s-is, lengths .trailing-is) refl
 
-    module _ {S E : Type 0} {w : Writer S E} where
+    module _ {S A : Type 0} {w : Writer S A} where
       pub first-segment :
-          {s : S} {table : List E}
-          → CanRun w (run X a b c e D h more) s (length table)
+          {s : S} {table : List A}
+          → CanRun w (run X t D h trailing) s (length table)
           → SegmentsLeft w d levels s table 0 s table
       first-segment can = record { number = omega arith; remaining = all-left (rw whole-run can) }
 
       pub plan-ran :
-          {s end : S} {old new : List E}
+          {s end : S} {old new : List A}
           → Ran w (snapsFrom d levels 0) s old new end
-          → Ran w (run X a b c e D h more) s old new end
+          → Ran w (run X t D h trailing) s old new end
       plan-ran r = rw whole-run at r
 
 module _
-    {S E : Type 0} {w : Writer S E} {d : Durations} {levels : Levels} {s₀ s : S} {table₀ table : List E} {i : ℕ}
+    {S A : Type 0} {w : Writer S A} {d : Durations} {levels : Levels} {s₀ s : S} {table₀ table : List A} {i : ℕ}
     (left : SegmentsLeft w d levels s₀ table₀ i s table)
   where
     -- one segment with its snap as it is passed on, and what is left after it
@@ -64,7 +65,7 @@ module _
       segment-can-run = can-part _ _ parted
 
       pub next-segment :
-          {t : S} {new : List E}
+          {t : S} {new : List A}
           → i < 16
           → Ran w (replicate (g .samples) x) s table new t
           → SegmentsLeft w d levels s₀ table₀ (i + 1) t new

@@ -3,7 +3,8 @@ use mathlib.Core.Path.{_≡_, refl, sym, ap, ap₂, _∙_}
 use Prim.Native.Nat.{ℕ, _+_}
 use native.Mathlib.Numerals.{add-one}
 use lib.IntN.{ℤ}
-use Rattle.profile.specs.Sums.{sum, sums}
+use Rattle.profile.specs.Profile.{sum}
+use Rattle.profile.specs.Inner.Repeated.{sums}
 use Rattle.motion.specs.declared.state.State.{State}
 use Rattle.motion.specs.Inner.Steps.{stepped, rest, stateAt}
 

@@ -5,70 +5,70 @@ use Prim.Native.Nat.{ℕ, _+_, _≤_, _<_}
 use native.Mathlib.Omega.{arith}
 use lib.IntN.{ℤ}
 use lib.ListN.{length, drop}
-use Rattle.planner.specs.Direction.{along}
-use Rattle.planner.specs.Durations.{p, q, r, s, N}
-use Rattle.profile.specs.Segments.{none, Segment, segment, segments}
+use Rattle.planner.specs.Quantities.{along}
+use Rattle.planner.specs.Intervals.{Intervals, p, q, r, s, N}
+use Rattle.profile.specs.Profile.{none, Segment, segment, segments}
 use Rattle.profile.specs.Profile as profile
-use Rattle.profile.specs.Widths.{span}
+use Rattle.profile.specs.Inner.Widths.{span}
 use Rattle.profile.proofs.Lookup.{samples, samples-append, snap-rested}
 use Rattle.profile.proofs.SwitchedLaws.{samples-switched}
 use Rattle.profile.proofs.FourthOrder.{fifteen}
-use Rattle.motion.specs.Direction as direction
+use Rattle.motion.specs.Sampling.{valuesAt}
 use Rattle.motion.specs.Tables.{rowsFrom}
 use Rattle.motion.specs.Inner.Runs.{Writer, CanRun, Ran}
-use Rattle.motion.specs.Inner.SegmentSnaps.{withMore}
-use Rattle.motion.specs.Inner.Planned.{WithinRange, RowsIn}
+use Rattle.motion.specs.Inner.SegmentSnaps.{withTrailing}
+use Rattle.motion.specs.Inner.Planned.{widthsOf, WithinRange, directedSnap, RowsIn}
 use Rattle.motion.proofs.OrderedLaws.{spread}
 use Rattle.motion.proofs.ListedLaws.{Listed, directedSnaps, length-snaps, listed}
 use Rattle.motion.proofs.RowLaws.{Carries, steps-fit, stored-rows}
 
-module _ (X : ℤ) (a b c e D : ℕ) (h : WithinRange a b c e D) where
+module _ (X : ℤ) (t : Intervals) (D : ℕ) (h : WithinRange t D) where
   abbrev fifteenSegments : List Segment
-  fifteenSegments = segments (p a) (q a b) (r a b c) (s a b c e)
+  fifteenSegments = segments (p t) (q t) (r t) (s t)
 
   -- and a segment without snap for the rows after them
-  abbrev all : (more : ℕ) → List Segment
-  all more = withMore (p a) (q a b) (r a b c) (s a b c e) more
+  abbrev all : (trailing : ℕ) → List Segment
+  all trailing = withTrailing (p t) (q t) (r t) (s t) trailing
 
-  abbrev pub run : (more : ℕ) → List ℤ
-  run more = directedSnaps X D (all more)
+  abbrev pub run : (trailing : ℕ) → List ℤ
+  run trailing = directedSnaps X D (all trailing)
 
   abbrev snap : ℕ → ℤ
-  snap = direction.snap X a b c e D
+  snap = directedSnap X t D
 
-  run-length : (more : ℕ) → length (run more) ≡ N a b c e + more
+  run-length : (trailing : ℕ) → length (run trailing) ≡ N t + trailing
   unfolding span samples
-  run-length more =
-      let plan : samples fifteenSegments ≡ N a b c e =
-      ap samples (fifteen a b c e) ∙ samples-switched a (e ∷ c ∷ b ∷ []) (spread (h .ordered)) in
-      omega (arith, plan, length-snaps X D (all more), samples-append fifteenSegments (segment more none ∷ []))
+  run-length trailing =
+      let plan : samples fifteenSegments ≡ N t =
+      ap samples (fifteen (t .a) (t .b) (t .c) (t .e)) ∙ samples-switched (t .a) (widthsOf t) (spread (h .ordered)) in
+      omega (arith, plan, length-snaps X D (all trailing), samples-append fifteenSegments (segment trailing none ∷ []))
 
-  run-listed : (more : ℕ) → Listed (run more) snap 0
-  unfolding direction.snap profile.snap
-  run-listed more = listed X D (all more) snap 0 (λ i. ap snap (omega arith) ∙ ap (along X) (sym (snap-rested fifteenSegments more D i)))
+  run-listed : (trailing : ℕ) → Listed (run trailing) snap 0
+  unfolding valuesAt profile.snap
+  run-listed trailing = listed X D (all trailing) snap 0 (λ i. ap snap (omega arith) ∙ ap (along X) (sym (snap-rested fifteenSegments trailing D i)))
 
   -- the rows of a table that is written along the plan
-  module _ {S E : Type 0} {w : Writer S E} {at : ℕ → S} (carries : Carries w snap at) (more : ℕ) where
+  module _ {S A : Type 0} {w : Writer S A} {at : ℕ → S} (carries : Carries w snap at) (trailing : ℕ) where
     pub can-run :
         {places : ℕ}
-        → ((i : ℕ) → i < N a b c e + more → w .Fits (at i) (snap i))
-        → N a b c e + more ≤ places
-        → CanRun w (run more) (at 0) places
+        → ((i : ℕ) → i < N t + trailing → w .Fits (at i) (snap i))
+        → N t + trailing ≤ places
+        → CanRun w (run trailing) (at 0) places
     can-run fits l =
         record {
-          room = omega (arith, run-length more, carries .place-is 0);
-          fits = steps-fit carries (run more) 0 (run-listed more) (λ i k. fits i (omega (arith, run-length more)));
+          room = omega (arith, run-length trailing, carries .place-is 0);
+          fits = steps-fit carries (run trailing) 0 (run-listed trailing) (λ i k. fits i (omega (arith, run-length trailing)));
         }
 
     pub rows-in :
-        {old new : List E} {end : S}
-        → N a b c e + more ≤ length old
-        → Ran w (run more) (at 0) old new end
-        → RowsIn (N a b c e + more) (λ k. w .row (at k)) old new
-    rows-in {old} l t =
+        {old new : List A} {end : S}
+        → N t + trailing ≤ length old
+        → Ran w (run trailing) (at 0) old new end
+        → RowsIn (N t + trailing) (λ k. w .row (at k)) old new
+    rows-in {old} l ran =
         record {
           table-is =
-              t .table-is
-              ∙ stored-rows carries (run more) (run-listed more) old (omega (arith, run-length more))
-              ∙ ap (λ (n : ℕ). rowsFrom (λ k. w .row (at k)) 0 n ++ drop n old) (run-length more);
+              ran .table-is
+              ∙ stored-rows carries (run trailing) (run-listed trailing) old (omega (arith, run-length trailing))
+              ∙ ap (λ (n : ℕ). rowsFrom (λ k. w .row (at k)) 0 n ++ drop n old) (run-length trailing);
         }

@@ -1,15 +1,11 @@
 -- The answers as the paper has them: the number of each refusal, and the values that are given. Every field of every case is read.
 use Prim.Native.Nat.{ℕ}
 use lib.Ieee.{Float}
-use Rattle.planner.specs.Answer as planner
+use Rattle.planner.specs.Outcome as planner
+use Rattle.planner.specs.Result.{Result, refused, given}
 use Rattle.motion.specs.ForceRows.Machine as machine
-use Rattle.motion.specs.ForceRows.Force.{DriveKind, rigid, filtered}
-use Rattle.motion.specs.Result.{Result, refused, given}
-use Rattle.motion.specs.Sampling.{Values}
 use Rattle.motion.specs.declared.Sample.{Sample}
 use Rattle.motion.specs.declared.Machine.{Machine}
-use Rattle.motion.specs.declared.force.drive.Drive.{Drive}
-use Rattle.motion.specs.declared.force.drive.Drive.the-variants.{Rigid, Filtered}
 use Rattle.motion.specs.declared.MotionRefusal.{MotionRefusal}
 use Rattle.motion.specs.declared.MotionRefusal.the-variants.{Unplanned, ShortTable, PastEnd, MachineRange}
 use Rattle.motion.specs.declared.SampleAnswer.{SampleAnswer}
@@ -28,26 +24,10 @@ number MachineRange = 10
 abbrev pub machineOf : Machine → machine.Machine Float
 machineOf m = record { m1 = m .m1; m2 = m .m2; k1 = m .k1; k2 = m .k2; k12 = m .k12; c = m .c }
 
--- The checked drive.
-abbrev pub driveKind : Drive → DriveKind
-driveKind (Rigid stiffness) = rigid stiffness
-driveKind (Filtered alpha beta) = filtered alpha beta
-
-abbrev pub values : Sample → Values
-values x =
-    record {
-      snap = x .snap;
-      jerk = x .jerk;
-      acceleration = x .acceleration;
-      velocity = x .velocity;
-      position = x .position;
-      count = x .count;
-    }
-
-abbrev pub sampleOutcome : SampleAnswer → Result Values
-sampleOutcome (Sampled x) = given (values x)
+abbrev pub sampleOutcome : SampleAnswer → Result ℕ Sample
+sampleOutcome (Sampled x) = given x
 sampleOutcome (NoSample x) = refused (number x)
 
-abbrev pub tableOutcome : TableAnswer → Result ℕ
+abbrev pub tableOutcome : TableAnswer → Result ℕ ℕ
 tableOutcome (Filled rows) = given rows
 tableOutcome (NoTable x) = refused (number x)

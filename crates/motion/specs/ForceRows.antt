@@ -1,8 +1,5 @@
--- Document 01, "Force rows", in its order; then what the entry promises, and what holds of the rows beyond that.
+-- Document 01, "Force rows", in its order; then what holds of the rows beyond the promise of the table's entry.
 pub mod Machine
 pub mod Doubled
-pub mod Formula
 pub mod Force
-pub mod Table
-pub mod Exact
 pub mod Claims

@@ -1,4 +1,5 @@
--- What the contracts of private functions cite. No rule of the paper stands below here, and no promise of an entry rests on it.
+-- What only proofs and the contracts of private functions cite. No rule of the paper stands below here, and no promise of an entry rests
+-- on it.
 pub mod SnapLevels
 pub mod InnerSamples
 pub mod Steps

@@ -1,43 +1,72 @@
--- Document 01, "The profile": what the one-sample entry gives.
-use mathlib.Core.List.{[], _∷_}
+-- Document 01, "The profile": the five values of a sample, and what the one-sample entry gives.
+use mathlib.Core.List.{[], _∷_, _++_}
 use mathlib.Core.Path.{_≡_}
-use Prim.Native.Nat.{ℕ}
+use Prim.Native.Nat.{ℕ, _*_, _≤_, _<_}
 use lib.Dec.{ltb}
-use lib.IntN.{ℤ}
-use Rattle.planner.specs.Outcome.{check, outcomeOf}
-use Rattle.motion.specs.Values as value
-use Rattle.motion.specs.Count.{IsCount}
-use Rattle.motion.specs.Result.{Result, resultOf}
+use lib.IntN.{ℤ, pos, natAbs, _-ℤ_, _*ℤ_}
+use Rattle.planner.specs.Quantities.{unitsPerCount, along}
+use Rattle.planner.specs.Intervals.{Intervals, p, q, r, s, D}
+use Rattle.planner.specs.Result.{Result, given, check, firstRefusal}
+use Rattle.planner.specs.Outcome.{distanceOf, intervalsOf, samplesOf, checks}
+use Rattle.planner.specs.declared.Move.{Move}
+use Rattle.profile.specs.Profile as profile
+use Rattle.motion.specs.declared.Sample.{Sample}
 
--- "these five values and the count"
 pub record Values : Type 0 where
   pub snap : ℤ
   pub jerk : ℤ
   pub acceleration : ℤ
   pub velocity : ℤ
   pub position : ℤ
-  pub count : ℤ
 
-module _ (X : ℤ) (V₀ A₀ J₀ S₀ k : ℕ) where
-  -- The values of the move at sample k, where its position has that count.
-  unfoldable pub valuesWith : (count : ℤ) → Values
-  valuesWith count =
-      record {
-        snap = value.snap X V₀ A₀ J₀ S₀ k;
-        jerk = value.jerk X V₀ A₀ J₀ S₀ k;
-        acceleration = value.acceleration X V₀ A₀ J₀ S₀ k;
-        velocity = value.velocity X V₀ A₀ J₀ S₀ k;
-        position = value.position X V₀ A₀ J₀ S₀ k;
-        count = count;
-      }
+-- At sample k of the profile with the intervals t and a snap of size D, in the direction of X.
+unfoldable pub valuesAt : (X : ℤ) (t : Intervals) (D k : ℕ) → Values
+valuesAt X t D k =
+    record {
+      snap = along X (profile.snap (p t) (q t) (r t) (s t) D k);
+      jerk = along X (profile.jerk (p t) (q t) (r t) (s t) D k);
+      acceleration = along X (profile.acceleration (p t) (q t) (r t) (s t) D k);
+      velocity = along X (profile.velocity (p t) (q t) (r t) (s t) D k);
+      position = along X (profile.position (p t) (q t) (r t) (s t) D k);
+    }
 
+module _ (m : Move) where
+  -- Of the move, by its rules.
+  unfoldable pub valuesOf : (k : ℕ) → Values
+  valuesOf = valuesAt (m .displacement) (intervalsOf m) (D (intervalsOf m) (distanceOf m))
+
+  -- "the exact profile times P is the profile with W for D": the paper's E.
+  unfoldable pub exactPositionTimesP : (k : ℕ) → ℤ
+  exactPositionTimesP k = valuesAt (m .displacement) (intervalsOf m) (distanceOf m) k .position
+
+-- c counts in sub-count units: the paper's G·c.
+abbrev pub unitsOf : ℤ → ℤ
+unitsOf c = pos unitsPerCount *ℤ c
+
+-- "its position to the nearest count, halves away from zero": c is the count of the position x, and the only one (`one-count`).
+pub record IsCount (x c : ℤ) : Type 0 where
+  pub nearest : 2 * natAbs (x -ℤ unitsOf c) ≤ unitsPerCount
+  pub half-away : 2 * natAbs (x -ℤ unitsOf c) ≡ unitsPerCount → natAbs x < natAbs (unitsOf c)
+
+-- "these five values and the count"
+abbrev pub sampleOf : Values → (count : ℤ) → Sample
+sampleOf v count =
+    record {
+      snap = v .snap;
+      jerk = v .jerk;
+      acceleration = v .acceleration;
+      velocity = v .velocity;
+      position = v .position;
+      count = count;
+    }
+
+module _ (m : Move) (k : ℕ) where
   -- Refusals 1 to 7, then 9: "sample asked above N".
-  unfoldable pub sampleWith : (count : ℤ) → Result Values
-  sampleWith count =
-      resultOf (outcomeOf X V₀ A₀ J₀ S₀) (check 9 (ltb (value.N X V₀ A₀ J₀ S₀) k) ∷ []) (valuesWith count)
+  unfoldable pub sampleWith : (count : ℤ) → Result ℕ Sample
+  sampleWith count = firstRefusal (checks m ++ (check 9 (ltb (samplesOf m) k) ∷ [])) (given (sampleOf (valuesOf m k) count))
 
   -- What the one-sample entry promises of the outcome of its answer.
-  pub record Samples (o : Result Values) : Type 0 where
+  pub record Samples (o : Result ℕ Sample) : Type 0 where
     pub count : ℤ
-    pub count-is : IsCount (value.position X V₀ A₀ J₀ S₀ k) count
+    pub count-is : IsCount (valuesOf m k .position) count
     pub outcome-is : o ≡ sampleWith count

@@ -1,13 +1,19 @@
--- Document 01, "The profile" and "Force rows": the tables of positions and of reference rows.
+-- Document 01, "The profile" and "Force rows": the tables of positions, of reference rows and of force rows.
+use mathlib.Core.Bool.{not}
 use mathlib.Core.List.{List, [], _∷_, _++_}
 use mathlib.Core.Path.{_≡_}
 use Prim.Native.Nat.{ℕ, zero, suc, _+_}
 use lib.Dec.{ltb}
 use lib.IntN.{ℤ}
+use lib.Ieee.{Float}
 use lib.ListN.{length, drop}
-use Rattle.planner.specs.Outcome.{Check, check, outcomeOf}
-use Rattle.motion.specs.Values as value
-use Rattle.motion.specs.Result.{Result, refused, given, resultOf}
+use Rattle.planner.specs.Result.{Result, refused, given, Check, check, firstRefusal}
+use Rattle.planner.specs.Outcome.{samplesOf, checks}
+use Rattle.planner.specs.declared.Move.{Move}
+use Rattle.motion.specs.Sampling.{valuesOf}
+use Rattle.motion.specs.ForceRows.Machine.{Machine, machineAsRead, machineInRange}
+use Rattle.motion.specs.ForceRows.Doubled.{Doubled, doubledValues}
+use Rattle.motion.specs.ForceRows.Force.{forceRow}
 
 -- The rows from k on, n of them.
 unfoldable pub rowsFrom : {A : Type 0} → (ℕ → A) → (k n : ℕ) → List A
@@ -15,31 +21,43 @@ rowsFrom row k zero = []
 rowsFrom row k (suc n) = row k ∷ rowsFrom row (suc k) n
 
 -- The lent table at exit: the rows from place 0 on and every later place as it was; at a refusal, the old table.
-unfoldable pub tableOf : {A : Type 0} → Result ℕ → (rows old : List A) → List A
+unfoldable pub tableOf : {A : Type 0} → Result ℕ ℕ → (rows old : List A) → List A
 tableOf (refused number) rows old = old
 tableOf (given n) rows old = rows ++ drop (length rows) old
 
-module _ (X : ℤ) (V₀ A₀ J₀ S₀ : ℕ) where
+-- Refusal 10: "a machine number outside its range or not finite".
+abbrev pub machineCheck : Machine Float → Check
+machineCheck machine = check 10 (not (machineInRange (machineAsRead machine)))
+
+module _ (m : Move) where
   -- Refusals 1 to 7, then 8: the table has fewer places than there are rows; then the entry's own; else how many rows were written.
-  unfoldable pub tableResult : (own : List Check) (rows places : ℕ) → Result ℕ
-  tableResult own rows places = resultOf (outcomeOf X V₀ A₀ J₀ S₀) (check 8 (ltb places rows) ∷ own) rows
+  unfoldable pub tableResult : (own : List Check) (rows places : ℕ) → Result ℕ ℕ
+  tableResult own rows places = firstRefusal (checks m ++ (check 8 (ltb places rows) ∷ own)) (given rows)
 
   -- The outcome and the table at exit of an entry that writes so many rows.
-  pub record Fills {E : Type 0} (own : List Check) (rows : ℕ) (row : ℕ → E) (old : List E) (o : Result ℕ) (new : List E) : Type 0 where
+  pub record Fills {A : Type 0} (own : List Check) (rows : ℕ) (row : ℕ → A) (old : List A) (o : Result ℕ ℕ) (new : List A) : Type 0 where
     pub outcome-is : o ≡ tableResult own rows (length old)
     pub table-is : new ≡ tableOf (tableResult own rows (length old)) (rowsFrom row 0 rows) old
 
   -- What the position table's entry promises: "places 0 to N receive positions", and 8 for a "table under N+1 places".
-  unfoldable pub FillsPositions : (old : List ℤ) (o : Result ℕ) (new : List ℤ) → Type 0
-  FillsPositions = Fills [] (value.N X V₀ A₀ J₀ S₀ + 1) (value.position X V₀ A₀ J₀ S₀)
+  unfoldable pub FillsPositions : (old : List ℤ) (o : Result ℕ ℕ) (new : List ℤ) → Type 0
+  FillsPositions = Fills [] (samplesOf m + 1) (λ k. valuesOf m k .position)
 
   -- "A reference row for the feedback loop holds position[k], undelayed, for k from 0 to N."
   unfoldable pub referenceRow : ℕ → ℤ
-  referenceRow k = value.position X V₀ A₀ J₀ S₀ k
-
-  unfoldable pub referenceRows : ℕ
-  referenceRows = value.N X V₀ A₀ J₀ S₀ + 1
+  referenceRow k = valuesOf m k .position
 
   -- What the reference table's entry promises.
-  unfoldable pub FillsReference : (old : List ℤ) (o : Result ℕ) (new : List ℤ) → Type 0
-  FillsReference = Fills [] referenceRows referenceRow
+  unfoldable pub FillsReference : (old : List ℤ) (o : Result ℕ ℕ) (new : List ℤ) → Type 0
+  FillsReference = Fills [] (samplesOf m + 1) referenceRow
+
+  -- d2, j2, a2 and v2 of row k.
+  unfoldable pub rowNumbers : ℕ → Doubled ℤ
+  rowNumbers = doubledValues (samplesOf m) (valuesOf m)
+
+  unfoldable pub force : Machine Float → ℕ → Float
+  force machine = forceRow (machineAsRead machine) rowNumbers
+
+  -- What the force table's entry promises: 8 for a "table under .. N+2" places, then 10.
+  unfoldable pub FillsForce : Machine Float → (old : List Float) (o : Result ℕ ℕ) (new : List Float) → Type 0
+  FillsForce machine = Fills (machineCheck machine ∷ []) (samplesOf m + 2) (force machine)

@@ -1,5 +1,5 @@
 // Rounding in whole numbers: division goes towards zero, so what is left over decides, on either side of zero.
-ghost use Rattle.motion.specs.Count.{IsCount};
+ghost use Rattle.motion.specs.Sampling.{IsCount};
 
 const UNITS_PER_COUNT: i64 = planner::UNITS_PER_COUNT as i64;
 

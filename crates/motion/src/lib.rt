@@ -13,15 +13,15 @@ mod sums;
 use crate::force::table::write_rows;
 use crate::planned::samples_in_plan;
 use crate::positions::table::write_positions;
-use crate::refusal::unplanned;
+use crate::refusal::unfilled;
+use crate::refusal::unsampled;
 use crate::sums::sample_in_plan;
 use planner::Move;
 use planner::PlanAnswer;
 use planner::Refusal;
 ghost use mathlib.Core.Path.{_≡_};
 ghost use Rattle.motion.specs.Sampling.{Samples};
-ghost use Rattle.motion.specs.Tables.{FillsPositions, FillsReference};
-ghost use Rattle.motion.specs.ForceRows.Table.{FillsForce};
+ghost use Rattle.motion.specs.Tables.{FillsPositions, FillsReference, FillsForce};
 ghost use Rattle.motion.specs.Answer.{number, machineOf, sampleOutcome, tableOutcome};
 
 // The values at a sample: snap, jerk, acceleration, velocity and position in sub-count units, and the position to the nearest count.
@@ -66,11 +66,11 @@ pub enum TableAnswer {
 
 // The values of a move at sample k, from 0 to N.
 pub fn sample_move(m: Move, k: u64) -> SampleAnswer
-    ensures { λ r. ⌜ Samples (m .displacement) (m .velocity) (m .acceleration) (m .jerk) (m .snap) k (sampleOutcome r) ⌝ }
+    ensures { λ r. ⌜ Samples m k (sampleOutcome r) ⌝ }
 {
     let answer = planner::plan_move(m);
     let PlanAnswer::Planned(plan) = answer else {
-        return SampleAnswer::Refused(unplanned(answer));
+        return unsampled(answer);
     };
     if samples_in_plan(plan) < k {
         return SampleAnswer::Refused(MotionRefusal::PastEnd);
@@ -80,33 +80,33 @@ pub fn sample_move(m: Move, k: u64) -> SampleAnswer
 
 // Fills a table with the positions of a move at samples 0 to N, for the drive to play.
 pub fn fill_positions(m: Move, table: &mut [i64]) -> TableAnswer
-    ensures { λ r. ⌜ FillsPositions (m .displacement) (m .velocity) (m .acceleration) (m .jerk) (m .snap) (now (table .entry)) (tableOutcome r) (now (table .exit)) ⌝ }
+    ensures { λ r. ⌜ FillsPositions m (now (table .entry)) (tableOutcome r) (now (table .exit)) ⌝ }
 {
     let answer = planner::plan_move(m);
     let PlanAnswer::Planned(plan) = answer else {
-        return TableAnswer::Refused(unplanned(answer));
+        return unfilled(answer);
     };
     write_positions(table, m.displacement, plan)
 }
 
 // Fills a table with the reference rows of a move at samples 0 to N, for the feedback loop. By the rule they are its positions.
 pub fn fill_reference(m: Move, table: &mut [i64]) -> TableAnswer
-    ensures { λ r. ⌜ FillsReference (m .displacement) (m .velocity) (m .acceleration) (m .jerk) (m .snap) (now (table .entry)) (tableOutcome r) (now (table .exit)) ⌝ }
+    ensures { λ r. ⌜ FillsReference m (now (table .entry)) (tableOutcome r) (now (table .exit)) ⌝ }
 {
     let answer = planner::plan_move(m);
     let PlanAnswer::Planned(plan) = answer else {
-        return TableAnswer::Refused(unplanned(answer));
+        return unfilled(answer);
     };
     write_positions(table, m.displacement, plan)
 }
 
 // Fills a table with the force rows of a move and a machine at rows 0 to N+1, for the drive's feedforward.
 pub fn fill_force(m: Move, machine: Machine, table: &mut [f64]) -> TableAnswer
-    ensures { λ r. ⌜ FillsForce (m .displacement) (m .velocity) (m .acceleration) (m .jerk) (m .snap) (machineOf machine) (now (table .entry)) (tableOutcome r) (now (table .exit)) ⌝ }
+    ensures { λ r. ⌜ FillsForce m (machineOf machine) (now (table .entry)) (tableOutcome r) (now (table .exit)) ⌝ }
 {
     let answer = planner::plan_move(m);
     let PlanAnswer::Planned(plan) = answer else {
-        return TableAnswer::Refused(unplanned(answer));
+        return unfilled(answer);
     };
     write_rows(table, m.displacement, plan, machine)
 }

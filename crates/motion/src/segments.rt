@@ -2,28 +2,29 @@
 use crate::snap::Levels;
 use planner::Plan;
 ghost use Prim.Native.Nat.{_<_};
-ghost use Rattle.planner.specs.Facts.{Ordered};
+ghost use Rattle.planner.specs.Inner.Facts.{Ordered};
+ghost use Rattle.planner.specs.Outcome.{intervalsIn};
 ghost use Rattle.motion.specs.Inner.SegmentSnaps.{IsDurations, NextSegment};
 
-// The lengths of the segments: the paper's p, q, r and s, and the rows of a table after the last segment.
+// The lengths of the segments: the paper's p, q, r and s, and the trailing rows of a table, after the last segment.
 pub(crate) struct Durations {
     pub p: u64,
     pub q: u64,
     pub r: u64,
     pub s: u64,
-    pub more: u64,
+    pub trailing: u64,
 }
 
-pub(crate) fn durations_of(plan: Plan, more: u64) -> Durations
-    requires { ⌜ Ordered (plan .a) (plan .b) (plan .c) (plan .e) ⌝ }
-    ensures { λ d. ⌜ IsDurations (plan .a) (plan .b) (plan .c) (plan .e) more d ⌝ }
+pub(crate) fn durations_of(plan: Plan, trailing: u64) -> Durations
+    requires { ⌜ Ordered (intervalsIn plan) ⌝ }
+    ensures { λ d. ⌜ IsDurations (intervalsIn plan) trailing d ⌝ }
 {
     Durations {
         p: plan.a,
         q: plan.b - plan.a,
         r: plan.c - plan.a - plan.b,
         s: plan.e - plan.a - plan.b - plan.c,
-        more,
+        trailing,
     }
 }
 
@@ -42,11 +43,11 @@ pub(crate) fn segment_at(d: Durations, levels: Levels, i: u64) -> Segment
     match i {
         0 | 6 | 10 | 12 => Segment {
             samples: d.p,
-            snap: levels.up,
+            snap: levels.positive,
         },
         2 | 4 | 8 | 14 => Segment {
             samples: d.p,
-            snap: levels.down,
+            snap: levels.negative,
         },
         3 | 11 => Segment {
             samples: d.r,
@@ -57,7 +58,7 @@ pub(crate) fn segment_at(d: Durations, levels: Levels, i: u64) -> Segment
             snap: 0,
         },
         15 => Segment {
-            samples: d.more,
+            samples: d.trailing,
             snap: 0,
         },
         _ => Segment {

@@ -10,15 +10,15 @@ use crate::state::step;
 use planner::Plan;
 ghost use mathlib.Core.Path.{_≡_};
 ghost use Prim.Native.Nat.{_≤_};
-ghost use mathlib.Core.List.{[], _∷_};
-ghost use Rattle.profile.specs.Widths.{snapBy};
+ghost use Rattle.profile.specs.Inner.Widths.{snapBy};
+ghost use Rattle.planner.specs.Outcome.{intervalsIn};
 ghost use Rattle.motion.specs.Inner.Steps.{stateAt, StepsFitBy};
-ghost use Rattle.motion.specs.Inner.Planned.{PlanInRange, samplesIn, SampleOf};
+ghost use Rattle.motion.specs.Inner.Planned.{PlanInRange, samplesIn, widthsOf, IsSample};
 
 // By k steps from rest, with the snap looked up at each.
 fn sum_to(plan: Plan, levels: Levels, k: u64) -> State
-    requires { ⌜ StepsFitBy (snapBy (plan .a) (plan .e ∷ plan .c ∷ plan .b ∷ []) (levels .up) (levels .down)) k ⌝ }
-    ensures { λ r. ⌜ r ≡ stateAt (snapBy (plan .a) (plan .e ∷ plan .c ∷ plan .b ∷ []) (levels .up) (levels .down)) k ⌝ }
+    requires { ⌜ StepsFitBy (snapBy (plan .a) (widthsOf (intervalsIn plan)) (levels .positive) (levels .negative)) k ⌝ }
+    ensures { λ r. ⌜ r ≡ stateAt (snapBy (plan .a) (widthsOf (intervalsIn plan)) (levels .positive) (levels .negative)) k ⌝ }
 {
     let mut state = at_rest();
     while state.sample < k {
@@ -32,7 +32,7 @@ fn sum_to(plan: Plan, levels: Levels, k: u64) -> State
 pub(crate) fn sample_in_plan(displacement: i64, plan: Plan, k: u64) -> Sample
     requires { ⌜ PlanInRange plan ⌝ }
     requires { ⌜ k ≤ samplesIn plan ⌝ }
-    ensures { λ r. ⌜ SampleOf displacement (plan .a) (plan .b) (plan .c) (plan .e) (plan .snap) k r ⌝ }
+    ensures { λ r. ⌜ IsSample displacement (intervalsIn plan) (plan .snap) k r ⌝ }
 {
     let levels = levels_of(displacement, plan.snap);
     let state = sum_to(plan, levels, k);

@@ -1,85 +1,90 @@
 -- What the promises of the C entries come to for their caller.
 use mathlib.Core.List.{List}
-use mathlib.Core.Path.{_≡_, refl, sym, ap, subst, _∙_}
-use Prim.Native.Nat.{ℕ, zero, suc, _+_, _≤_, _<_}
+use mathlib.Core.Path.{_≡_, refl, sym, ap, _∙_}
+use Prim.Native.Nat.{ℕ, _+_, _≤_}
 use native.Mathlib.Omega.{arith}
 use lib.IntN.{ℤ}
 use lib.ListN.{length}
-use Rattle.planner.specs.Accepted.{Accepted, IsPlanned}
-use Rattle.planner.specs.Durations.{N}
-use Rattle.planner.specs.Outcome.{Outcome, planned, Plans}
-use Rattle.planner.specs.Outcome as plan
+use Rattle.planner.specs.Result.{Result, refused, given}
+use Rattle.planner.specs.Outcome.{samplesOf, Plans}
+use Rattle.planner.specs.Claims.{Accepted, IsPlanned}
+use Rattle.planner.specs.declared.Move.{Move}
+use Rattle.planner.specs.declared.Plan.{Plan}
 use Rattle.planner.proofs.Acceptance.{acceptance}
-use Rattle.planner.proofs.Clash.{clash}
 use Rattle.planner.proofs.PlannedFacts.{planned-facts}
-use Rattle.motion.specs.Result.{Result, refused, given}
+use Rattle.planner.proofs.RuleRefusals.{refused-most}
 use Rattle.motion.specs.Tables.{FillsPositions}
-use Rattle.motion.specs.Values as value
+use Rattle.motion.proofs.AnswerLaws.{one-sample-outcome}
 use Rattle.motion.proofs.Demand3.{demand-3}
-use Rattle.motion.proofs.EntryLaws.{Entered, samples-are}
+use Rattle.motion.proofs.EntryLaws.{samples-are}
 use Rattle.motion.proofs.FillLaws.{filled-outcome}
-use Rattle.nitswolan.specs.Fields.{refusedOr, planOutcome, planFields, sampleOutcome, tableOutcome}
+use Rattle.motion.proofs.RuleAnswers.{ruleSample, rule-samples}
+use Rattle.nitswolan.specs.Fields.{Answers, planFields, sampleFields, tableFields}
 use Rattle.nitswolan.specs.Claims.{AcceptedClaim, CallerClaim}
 use Rattle.nitswolan.specs.declared.plan.PlanResult.{PlanResult}
+use Rattle.nitswolan.specs.declared.sample.SampleResult.{SampleResult}
 use Rattle.nitswolan.specs.declared.table.TableResult.{TableResult}
 
--- the plan of a struct without a refusal
-module _ (x : PlanResult) where
-  abbrev fieldsPlan : Outcome
-  fieldsPlan = planned (x .a) (x .b) (x .c) (x .e) (x .snap) (x .shortfall)
+no-refusal : (o : Result ℕ Plan) → IsPlanned o → planFields o .refusal ≡ 0
+no-refusal (refused n) p = absurd p
+no-refusal (given x) p = refl
 
-  plan-read : x .refusal ≡ 0 → planOutcome x ≡ fieldsPlan
-  plan-read h = ap (λ (n : ℕ). refusedOr plan.refused n fieldsPlan) h
+module _ {m : Move} where
+  -- an outcome whose struct has refusal 0 is a plan, since no refusal has the number 0
+  planned : (o : Result ℕ Plan) → Plans m o → planFields o .refusal ≡ 0 → IsPlanned o
+  planned (refused n) h q = absurd (omega (arith, q, refused-most m n (sym (h .outcome-is)) .0))
+  planned (given x) h q = tt
 
-none-of-plan : (n : ℕ) (o : Outcome) → IsPlanned (refusedOr plan.refused n o) → n ≡ 0
-none-of-plan zero o h = refl
-none-of-plan (suc n) o h = absurd h
+  -- N stands in `samples`
+  samples-of : (o : Result ℕ Plan) → Plans m o → IsPlanned o → planFields o .samples ≡ samplesOf m
+  samples-of (refused n) h p = absurd p
+  samples-of (given x) h p = samples-are (planned-facts h)
 
--- the same of what an entry over a plan gives
-none : {A : Type 0} (n : ℕ) (x y : A) → refusedOr refused n (given x) ≡ given y → n ≡ 0
-none zero x y h = refl
-none (suc n) x y h = absurd (clash cc)
+  module _ {x : PlanResult} (h : Answers planFields (Plans m) x) where
+    refusal-is : x .refusal ≡ planFields (h .outcome) .refusal
+    refusal-is = ap (λ (y : PlanResult). y .refusal) (h .fields-are)
 
-same : {A : Type 0} (n : ℕ) (x y : A) → refusedOr refused n (given x) ≡ given y → x ≡ y
-same zero x y h = cc
-same (suc n) x y h = absurd (clash cc)
+    is-planned : x .refusal ≡ 0 → IsPlanned (h .outcome)
+    is-planned r = planned (h .outcome) (h .promised) (sym refusal-is ∙ r)
+
+    pub accepted : x .refusal ≡ 0 → Accepted m
+    accepted r = acceptance m (h .outcome) (h .promised) .0 (is-planned r)
+
+    pub samples : x .refusal ≡ 0 → x .samples ≡ samplesOf m
+    samples r = ap (λ (y : PlanResult). y .samples) (h .fields-are) ∙ samples-of (h .outcome) (h .promised) (is-planned r)
 
 pub accepted-claim : AcceptedClaim
-accepted-claim X V₀ A₀ J₀ S₀ x h =
-    let both = acceptance X V₀ A₀ J₀ S₀ (planOutcome x) h in
-    (λ r. both .0 (subst IsPlanned (sym (plan-read x r)) tt), λ k. none-of-plan (x .refusal) (fieldsPlan x) (both .1 k))
+accepted-claim m x h = (accepted h, λ k. refusal-is h ∙ no-refusal (h .outcome) (acceptance m (h .outcome) (h .promised) .1 k))
 
-module _ {X : ℤ} {V₀ A₀ J₀ S₀ : ℕ} (x : PlanResult) (h : Plans X V₀ A₀ J₀ S₀ (planOutcome x)) (r : x .refusal ≡ 0) where
-  entered : Entered X V₀ A₀ J₀ S₀ (x .a) (x .b) (x .c) (x .e) (x .snap) (x .shortfall)
-  entered =
-      record {
-        facts = planned-facts (subst (Plans X V₀ A₀ J₀ S₀) (plan-read x r) h);
-        outcome-is = sym (h .outcome-is) ∙ plan-read x r;
-      }
-
-  pub samples : x ≡ planFields (planOutcome x) → x .samples ≡ value.N X V₀ A₀ J₀ S₀
-  samples q = ap (λ (y : PlanResult). y .samples) (q ∙ ap planFields (plan-read x r)) ∙ samples-are entered
-
-  filled-all :
-      (old new : List ℤ) (t : TableResult)
-      → value.N X V₀ A₀ J₀ S₀ + 1 ≤ length old
-      → FillsPositions X V₀ A₀ J₀ S₀ old (tableOutcome t) new
-      → tableOutcome t ≡ given (value.N X V₀ A₀ J₀ S₀ + 1)
-  unfolding FillsPositions
-  filled-all old new t l f = filled-outcome entered l tt f
+-- a table with room is filled whole
+filled-all :
+    {m : Move} (old new : List ℤ) {t : TableResult}
+    → Accepted m
+    → samplesOf m + 1 ≤ length old
+    → Answers tableFields (λ o. FillsPositions m old o new) t
+    → t ≡ tableFields (given (samplesOf m + 1))
+unfolding FillsPositions
+filled-all old new a l f = f .fields-are ∙ ap tableFields (filled-outcome a l tt (f .promised))
 
 pub caller-facts : CallerClaim
-caller-facts X V₀ A₀ J₀ S₀ x h q r sample promised old new t room f =
-    let n = samples x h r q in
-    let room′ : value.N X V₀ A₀ J₀ S₀ + 1 ≤ length old = omega (arith, n, room) in
-    let claim =
-    demand-3 X V₀ A₀ J₀ S₀ (entered x h r .facts .accepted) (λ k. sampleOutcome (sample k))
-    (λ k l. promised k (omega (arith, l, n))) old new (tableOutcome t) room′ f in
-    let rows = filled-all x h r old new t room′ f in
+caller-facts m x h r sample promised old new t room f =
+    let a = accepted h r in
+    let n = samples h r in
+    let room′ : samplesOf m + 1 ≤ length old = omega (arith, n, room) in
+    let claim = demand-3 m a (ruleSample m) (λ k l. rule-samples m k) old new (f .outcome) room′ (f .promised) in
+    let fields : (k : ℕ) → k ≤ samplesOf m → sample k ≡ sampleFields (ruleSample m k) =
+    λ k l.
+    let p = promised k (omega (arith, l, n)) in
+    p .fields-are ∙ ap sampleFields (one-sample-outcome (p .promised) (rule-samples m k)) in
+    let given-at : (k : ℕ) → k ≤ samplesOf m → sample k ≡ sampleFields (given (claim .at k)) =
+    λ k l. fields k l ∙ ap sampleFields (claim .answered k l) in
+    let rows = filled-all old new a room′ f in
     record {
       samples-are = n;
-      sampled = λ k l. none (sample k .refusal) _ _ (claim .answered k (omega (arith, l, n)));
-      not-refused = none (t .refusal) _ _ rows;
-      rows-are = omega (arith, n, same (t .refusal) _ _ rows);
+      sampled = λ k l. ap (λ (y : SampleResult). y .refusal) (given-at k (omega (arith, l, n)));
+      not-refused = ap (λ (y : TableResult). y .refusal) rows;
+      rows-are = omega (arith, n, ap (λ (y : TableResult). y .rows) rows);
+      outcome = ruleSample m;
+      sample-fields = λ k l. fields k (omega (arith, l, n));
       demand-3 = claim;
     }

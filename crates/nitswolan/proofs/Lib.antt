@@ -1,10 +1,7 @@
--- What fills a struct, and how it is read.
-pub mod HoldsLaws
+-- The answers in their structs, and that each promise leaves one.
 pub mod PlanLaws
 pub mod SampleLaws
-pub mod TableLaws
-pub mod SheetLaws
--- What the promises come to for the caller.
 pub mod OneAnswer
+-- What a caller may rely on.
 pub mod CallerTheorems
 pub mod RuleAnswers

@@ -2,56 +2,41 @@
 use mathlib.Core.List.{List}
 use mathlib.Core.Path.{_≡_, sym, ap, _∙_}
 use Prim.Native.Nat.{ℕ}
-use lib.IntN.{ℤ}
-use Rattle.planner.specs.Outcome.{Check, Plans}
+use Rattle.planner.specs.Result.{Check}
+use Rattle.planner.specs.Outcome.{Plans}
+use Rattle.planner.specs.declared.Move.{Move}
 use Rattle.motion.specs.Sampling.{Samples}
 use Rattle.motion.specs.Tables.{Fills}
-use Rattle.motion.proofs.AnswerLaws.{one-outcome}
+use Rattle.motion.proofs.AnswerLaws.{one-sample-outcome, one-table-outcome}
 use Rattle.route_sheet.specs.Answer.{ReadsSheet}
-use Rattle.nitswolan.specs.Fields.{planOutcome, planFields, sampleOutcome, sampleFields, tableOutcome, tableFields, sheetHeld, sheetFields}
+use Rattle.route_sheet.proofs.AnswerLaws.{one-reading}
+use Rattle.nitswolan.specs.Fields.{Answers, planFields, sampleFields, tableFields, sheetFields}
 use Rattle.nitswolan.specs.declared.plan.PlanResult.{PlanResult}
 use Rattle.nitswolan.specs.declared.sample.SampleResult.{SampleResult}
 use Rattle.nitswolan.specs.declared.table.TableResult.{TableResult}
 use Rattle.nitswolan.specs.declared.sheet.SheetResult.{SheetResult}
 
--- a struct that is filled by what it is read as has no other field to differ in
-pub same-fields : {R O : Type 0} (read : R → O) (fields : O → R) (x y : R) → x ≡ fields (read x) → y ≡ fields (read y) → read x ≡ read y → x ≡ y
-same-fields read fields x y h l q = h ∙ ap fields q ∙ sym l
-
-pub one-plan :
-    {X : ℤ} {V₀ A₀ J₀ S₀ : ℕ} (x y : PlanResult)
-    → x ≡ planFields (planOutcome x)
-    → y ≡ planFields (planOutcome y)
-    → Plans X V₀ A₀ J₀ S₀ (planOutcome x)
-    → Plans X V₀ A₀ J₀ S₀ (planOutcome y)
+-- one outcome fills one struct
+same-struct :
+    {O R : Type 0} {fields : O → R} {P Q : O → Type 0} {x y : R}
+    → (h : Answers fields P x) (l : Answers fields Q y)
+    → h .outcome ≡ l .outcome
     → x ≡ y
-one-plan x y h l p q = same-fields planOutcome planFields x y h l (p .outcome-is ∙ sym (q .outcome-is))
+same-struct {fields = fields} h l q = h .fields-are ∙ ap fields q ∙ sym (l .fields-are)
 
-pub one-sample :
-    {X : ℤ} {V₀ A₀ J₀ S₀ k : ℕ} (x y : SampleResult)
-    → x ≡ sampleFields (sampleOutcome x)
-    → y ≡ sampleFields (sampleOutcome y)
-    → Samples X V₀ A₀ J₀ S₀ k (sampleOutcome x)
-    → Samples X V₀ A₀ J₀ S₀ k (sampleOutcome y)
-    → x ≡ y
-one-sample x y h l p q = same-fields sampleOutcome sampleFields x y h l (one-outcome p q)
+pub one-plan : {m : Move} {x y : PlanResult} → Answers planFields (Plans m) x → Answers planFields (Plans m) y → x ≡ y
+one-plan h l = same-struct h l (h .promised .outcome-is ∙ sym (l .promised .outcome-is))
+
+pub one-sample : {m : Move} {k : ℕ} {x y : SampleResult} → Answers sampleFields (Samples m k) x → Answers sampleFields (Samples m k) y → x ≡ y
+one-sample h l = same-struct h l (one-sample-outcome (h .promised) (l .promised))
 
 -- for all three tables
 pub one-table :
-    {E : Type 0} {X : ℤ} {V₀ A₀ J₀ S₀ rows : ℕ} {own : List Check} {row : ℕ → E} {old new new′ : List E} (x y : TableResult)
-    → x ≡ tableFields (tableOutcome x)
-    → y ≡ tableFields (tableOutcome y)
-    → Fills X V₀ A₀ J₀ S₀ own rows row old (tableOutcome x) new
-    → Fills X V₀ A₀ J₀ S₀ own rows row old (tableOutcome y) new′
+    {A : Type 0} {m : Move} {rows : ℕ} {own : List Check} {row : ℕ → A} {old new new′ : List A} {x y : TableResult}
+    → Answers tableFields (λ o. Fills m own rows row old o new) x
+    → Answers tableFields (λ o. Fills m own rows row old o new′) y
     → (x ≡ y) × (new ≡ new′)
-one-table x y h l p q =
-    (same-fields tableOutcome tableFields x y h l (p .outcome-is ∙ sym (q .outcome-is)), p .table-is ∙ sym (q .table-is))
+one-table h l = let same = one-table-outcome (h .promised) (l .promised) in (same-struct h l (same .0), same .1)
 
-pub one-sheet :
-    {text : List ℕ} (x y : SheetResult)
-    → x ≡ sheetFields (sheetHeld x)
-    → y ≡ sheetFields (sheetHeld y)
-    → ReadsSheet text (sheetHeld x)
-    → ReadsSheet text (sheetHeld y)
-    → x ≡ y
-one-sheet x y h l p q = same-fields sheetHeld sheetFields x y h l (p .held-is ∙ sym (q .held-is))
+pub one-sheet : {text : List ℕ} {x y : SheetResult} → Answers sheetFields (ReadsSheet text) x → Answers sheetFields (ReadsSheet text) y → x ≡ y
+one-sheet h l = same-struct h l (one-reading (h .promised) (l .promised))

@@ -1,54 +1,45 @@
--- The structs of the C interface as the paper has them. A struct is read as the outcome of the library's entry (`planOutcome` ..), so that
--- both promise the same by name; and an outcome fills a struct (`planFields` ..), which says what every field holds.
-use mathlib.Core.Bool.{cond}
+-- The structs of the C interface: how an outcome of the library's entry fills each, field by field.
 use mathlib.Core.List.{List}
-use Prim.Native.Nat.{ℕ, zero, suc}
-use lib.Dec.{eqb}
+use mathlib.Core.Path.{_≡_}
+use Prim.Native.Nat.{ℕ}
 use lib.IntN.{pos}
-use Rattle.planner.specs.Durations.{N}
-use Rattle.planner.specs.Outcome.{Outcome, planned}
-use Rattle.planner.specs.Outcome as plan
-use Rattle.motion.specs.Result.{Result, refused, given}
-use Rattle.motion.specs.Sampling.{Values}
-use Rattle.route_sheet.specs.Answer.{Counts, Held}
-use Rattle.route_sheet.specs.Result as sheet
+use Rattle.planner.specs.Intervals.{N}
+use Rattle.planner.specs.Result.{Result, refused, given}
+use Rattle.planner.specs.Outcome.{intervalsIn}
+use Rattle.planner.specs.declared.Plan.{Plan}
+use Rattle.motion.specs.declared.Sample.{Sample}
+use Rattle.route_sheet.specs.Answer.{sheetOutcome}
 use Rattle.route_sheet.specs.declared.BoundSet.{BoundSet}
 use Rattle.route_sheet.specs.declared.RouteMove.{RouteMove}
+use Rattle.route_sheet.specs.declared.SheetReading.{SheetReading}
 use Rattle.nitswolan.specs.declared.plan.PlanResult.{PlanResult}
 use Rattle.nitswolan.specs.declared.sample.SampleResult.{SampleResult}
 use Rattle.nitswolan.specs.declared.table.TableResult.{TableResult}
 use Rattle.nitswolan.specs.declared.sheet.SheetResult.{SheetResult}
 
--- The refusal is 0 where there is none.
-abbrev pub refusedOr : {O : Type 0} → (refuse : ℕ → O) → (refusal : ℕ) → O → O
-refusedOr refuse zero o = o
-refusedOr refuse (suc n) o = refuse (suc n)
+-- What a C entry promises: its struct r is filled by an outcome that the library's entry promises.
+pub record Answers {O R : Type 0} (fields : O → R) (Promise : O → Type 0) (r : R) : Type 0 where
+  pub outcome : O
+  pub promised : Promise outcome
+  pub fields-are : r ≡ fields outcome
 
--- A plan.
-abbrev pub planOutcome : PlanResult → Outcome
-planOutcome x = refusedOr plan.refused (x .refusal) (planned (x .a) (x .b) (x .c) (x .e) (x .snap) (x .shortfall))
-
-abbrev pub planFields : Outcome → PlanResult
-planFields (plan.refused number) =
+-- The refusal is 0 where there is none; at a refusal every other field is 0.
+abbrev pub planFields : Result ℕ Plan → PlanResult
+planFields (refused number) =
     record { refusal = number; samples = 0; a = 0; b = 0; c = 0; e = 0; snap = 0; shortfall = 0 }
-planFields (planned a b c e D short) =
-    record { refusal = 0; samples = N a b c e; a = a; b = b; c = c; e = e; snap = D; shortfall = short }
-
--- One sample.
-abbrev pub sampleOutcome : SampleResult → Result Values
-sampleOutcome x =
-    refusedOr refused (x .refusal)
-    (given
-    (record {
+planFields (given x) =
+    record {
+      refusal = 0;
+      samples = N (intervalsIn x);
+      a = x .a;
+      b = x .b;
+      c = x .c;
+      e = x .e;
       snap = x .snap;
-      jerk = x .jerk;
-      acceleration = x .acceleration;
-      velocity = x .velocity;
-      position = x .position;
-      count = x .count;
-    }))
+      shortfall = x .shortfall;
+    }
 
-abbrev pub sampleFields : Result Values → SampleResult
+abbrev pub sampleFields : Result ℕ Sample → SampleResult
 sampleFields (refused number) =
     record { refusal = number; snap = pos 0; jerk = pos 0; acceleration = pos 0; velocity = pos 0; position = pos 0; count = pos 0 }
 sampleFields (given x) =
@@ -62,33 +53,16 @@ sampleFields (given x) =
       count = x .count;
     }
 
--- A table.
-abbrev pub tableOutcome : TableResult → Result ℕ
-tableOutcome x = refusedOr refused (x .refusal) (given (x .rows))
-
-abbrev pub tableFields : Result ℕ → TableResult
+abbrev pub tableFields : Result ℕ ℕ → TableResult
 tableFields (refused number) = record { refusal = number; rows = 0 }
 tableFields (given rows) = record { refusal = 0; rows = rows }
 
--- A sheet: "11 also its line".
-abbrev pub refusedWith : {A : Type 0} → (line refusal : ℕ) → sheet.Result A
-refusedWith line number = cond (eqb number 11) (sheet.refusedAt number line) (sheet.refused number)
-
-abbrev pub sheetHeld : SheetResult → Held
-sheetHeld x =
-    record {
-      result = refusedOr (refusedWith (x .line)) (x .refusal) (sheet.given (record { sets = x .«set_count»; moves = x .«move_count» }));
-      sets = x .sets;
-      moves = x .moves;
-    }
-
-abbrev pub sheetFieldsOf : sheet.Result Counts → List BoundSet → List RouteMove → SheetResult
-sheetFieldsOf (sheet.refused number) sets moves =
-    record { refusal = number; line = 0; «set_count» = 0; «move_count» = 0; sets = sets; moves = moves }
-sheetFieldsOf (sheet.refusedAt number line) sets moves =
+-- At 11 its line stands in `line`.
+abbrev pub sheetFieldsOf : Result (ℕ × ℕ) (ℕ × ℕ) → List BoundSet → List RouteMove → SheetResult
+sheetFieldsOf (refused (number, line)) sets moves =
     record { refusal = number; line = line; «set_count» = 0; «move_count» = 0; sets = sets; moves = moves }
-sheetFieldsOf (sheet.given x) sets moves =
-    record { refusal = 0; line = 0; «set_count» = x .sets; «move_count» = x .moves; sets = sets; moves = moves }
+sheetFieldsOf (given (setCount, moveCount)) sets moves =
+    record { refusal = 0; line = 0; «set_count» = setCount; «move_count» = moveCount; sets = sets; moves = moves }
 
-abbrev pub sheetFields : Held → SheetResult
-sheetFields x = sheetFieldsOf (x .result) (x .sets) (x .moves)
+abbrev pub sheetFields : SheetReading → SheetResult
+sheetFields r = sheetFieldsOf (sheetOutcome (r .answer)) (r .sets) (r .moves)

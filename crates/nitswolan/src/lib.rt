@@ -13,15 +13,13 @@ use motion::Machine;
 pub use plan::PlanResult;
 use planner::Move;
 use route_sheet::REPORT_BYTES;
-ghost use mathlib.Core.Path.{_≡_};
 ghost use Rattle.planner.specs.Outcome.{Plans};
 ghost use Rattle.motion.specs.Answer.{machineOf};
-ghost use Rattle.motion.specs.ForceRows.Table.{FillsForce};
+ghost use Rattle.motion.specs.Tables.{FillsForce, FillsPositions, FillsReference};
 ghost use Rattle.motion.specs.Sampling.{Samples};
-ghost use Rattle.motion.specs.Tables.{FillsPositions, FillsReference};
 ghost use Rattle.route_sheet.specs.Answer.{ReadsSheet};
 ghost use Rattle.route_sheet.specs.Report.{Reports};
-ghost use Rattle.nitswolan.specs.Fields.{planFields, planOutcome, sampleFields, sampleOutcome, sheetFields, sheetHeld, tableFields, tableOutcome};
+ghost use Rattle.nitswolan.specs.Fields.{Answers, planFields, sampleFields, sheetFields, tableFields};
 pub use sample::SampleResult;
 pub use sheet::SheetResult;
 pub use table::TableResult;
@@ -29,8 +27,7 @@ pub use table::TableResult;
 // Plans a move, or names the lowest refusal that applies.
 #[no_mangle]
 pub extern "C" fn nitswolan_plan_move(m: Move) -> PlanResult
-    ensures { λ r. ⌜ Plans (m .displacement) (m .velocity) (m .acceleration) (m .jerk) (m .snap) (planOutcome r) ⌝ }
-    ensures { λ r. ⌜ r ≡ planFields (planOutcome r) ⌝ }
+    ensures { λ r. ⌜ Answers planFields (Plans m) r ⌝ }
 {
     plan_result(planner::plan_move(m))
 }
@@ -38,8 +35,7 @@ pub extern "C" fn nitswolan_plan_move(m: Move) -> PlanResult
 // The values of a move at sample k, from 0 to N.
 #[no_mangle]
 pub extern "C" fn nitswolan_sample_move(m: Move, k: u64) -> SampleResult
-    ensures { λ r. ⌜ Samples (m .displacement) (m .velocity) (m .acceleration) (m .jerk) (m .snap) k (sampleOutcome r) ⌝ }
-    ensures { λ r. ⌜ r ≡ sampleFields (sampleOutcome r) ⌝ }
+    ensures { λ r. ⌜ Answers sampleFields (Samples m k) r ⌝ }
 {
     sample_result(motion::sample_move(m, k))
 }
@@ -47,8 +43,7 @@ pub extern "C" fn nitswolan_sample_move(m: Move, k: u64) -> SampleResult
 // Fills a table with the positions of a move at samples 0 to N, for the drive to play.
 #[no_mangle]
 pub extern "C" fn nitswolan_fill_positions(m: Move, table: &mut [i64]) -> TableResult
-    ensures { λ r. ⌜ FillsPositions (m .displacement) (m .velocity) (m .acceleration) (m .jerk) (m .snap) (now (table .entry)) (tableOutcome r) (now (table .exit)) ⌝ }
-    ensures { λ r. ⌜ r ≡ tableFields (tableOutcome r) ⌝ }
+    ensures { λ r. ⌜ Answers tableFields (λ o. FillsPositions m (now (table .entry)) o (now (table .exit))) r ⌝ }
 {
     table_result(motion::fill_positions(m, table))
 }
@@ -56,8 +51,7 @@ pub extern "C" fn nitswolan_fill_positions(m: Move, table: &mut [i64]) -> TableR
 // Fills a table with the reference rows of a move at samples 0 to N, for the feedback loop.
 #[no_mangle]
 pub extern "C" fn nitswolan_fill_reference(m: Move, table: &mut [i64]) -> TableResult
-    ensures { λ r. ⌜ FillsReference (m .displacement) (m .velocity) (m .acceleration) (m .jerk) (m .snap) (now (table .entry)) (tableOutcome r) (now (table .exit)) ⌝ }
-    ensures { λ r. ⌜ r ≡ tableFields (tableOutcome r) ⌝ }
+    ensures { λ r. ⌜ Answers tableFields (λ o. FillsReference m (now (table .entry)) o (now (table .exit))) r ⌝ }
 {
     table_result(motion::fill_reference(m, table))
 }
@@ -65,8 +59,7 @@ pub extern "C" fn nitswolan_fill_reference(m: Move, table: &mut [i64]) -> TableR
 // Fills a table with the force rows of a move and a machine at rows 0 to N+1, for the drive's feedforward.
 #[no_mangle]
 pub extern "C" fn nitswolan_fill_force(m: Move, machine: Machine, table: &mut [f64]) -> TableResult
-    ensures { λ r. ⌜ FillsForce (m .displacement) (m .velocity) (m .acceleration) (m .jerk) (m .snap) (machineOf machine) (now (table .entry)) (tableOutcome r) (now (table .exit)) ⌝ }
-    ensures { λ r. ⌜ r ≡ tableFields (tableOutcome r) ⌝ }
+    ensures { λ r. ⌜ Answers tableFields (λ o. FillsForce m (machineOf machine) (now (table .entry)) o (now (table .exit))) r ⌝ }
 {
     table_result(motion::fill_force(m, machine, table))
 }
@@ -74,8 +67,7 @@ pub extern "C" fn nitswolan_fill_force(m: Move, machine: Machine, table: &mut [f
 // Reads the text of a sheet, or names its refusal.
 #[no_mangle]
 pub extern "C" fn nitswolan_read_sheet(text: &[u8]) -> SheetResult
-    ensures { λ r. ⌜ ReadsSheet (now (text .entry)) (sheetHeld r) ⌝ }
-    ensures { λ r. ⌜ r ≡ sheetFields (sheetHeld r) ⌝ }
+    ensures { λ r. ⌜ Answers sheetFields (ReadsSheet (now (text .entry))) r ⌝ }
 {
     sheet_result(route_sheet::read_sheet(text))
 }

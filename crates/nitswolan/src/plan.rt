@@ -3,11 +3,10 @@ use planner::Plan;
 use planner::PlanAnswer;
 ghost use mathlib.Core.Path.{_≡_};
 ghost use Prim.Native.Nat.{_≤_};
-ghost use Rattle.planner.specs.Answer.{outcome};
-ghost use Rattle.planner.specs.Durations.{N};
-ghost use Rattle.planner.specs.Outcome.{mostSamples};
-ghost use Rattle.nitswolan.specs.Fields.{planFields, planOutcome};
-ghost use Rattle.nitswolan.specs.Inner.{Holds, SamplesFit};
+ghost use Rattle.planner.specs.Outcome.{outcome, intervalsIn, mostSamples};
+ghost use Rattle.planner.specs.Intervals.{N};
+ghost use Rattle.nitswolan.specs.Fields.{planFields};
+ghost use Rattle.nitswolan.specs.Inner.{SamplesFit};
 
 // A plan: N, the intervals a, b, c and e, the size D of the snap, and the shortfall.
 #[repr(C)]
@@ -24,15 +23,15 @@ pub struct PlanResult {
 
 // N, the samples that the move takes.
 fn samples_of(plan: Plan) -> u64
-    requires { ⌜ N (plan .a) (plan .b) (plan .c) (plan .e) ≤ mostSamples ⌝ }
-    ensures { λ r. ⌜ r ≡ N (plan .a) (plan .b) (plan .c) (plan .e) ⌝ }
+    requires { ⌜ N (intervalsIn plan) ≤ mostSamples ⌝ }
+    ensures { λ r. ⌜ r ≡ N (intervalsIn plan) ⌝ }
 {
     plan.a + plan.b + plan.c + plan.e
 }
 
 pub(crate) fn plan_result(answer: PlanAnswer) -> PlanResult
     requires { ⌜ SamplesFit (outcome answer) ⌝ }
-    ensures { λ r. ⌜ Holds planOutcome planFields (outcome answer) r ⌝ }
+    ensures { λ r. ⌜ r ≡ planFields (outcome answer) ⌝ }
 {
     match answer {
         PlanAnswer::Planned(plan) => PlanResult {

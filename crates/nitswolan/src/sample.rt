@@ -1,8 +1,8 @@
 // The one-sample entry's answer for C.
 use motion::SampleAnswer;
-ghost use Rattle.motion.specs.Answer.{sampleOutcome as answered};
-ghost use Rattle.nitswolan.specs.Fields.{sampleFields, sampleOutcome};
-ghost use Rattle.nitswolan.specs.Inner.{Holds};
+ghost use mathlib.Core.Path.{_≡_};
+ghost use Rattle.motion.specs.Answer.{sampleOutcome};
+ghost use Rattle.nitswolan.specs.Fields.{sampleFields};
 
 // The values at a sample in sub-count units, and the position to the nearest count.
 #[repr(C)]
@@ -17,7 +17,7 @@ pub struct SampleResult {
 }
 
 pub(crate) fn sample_result(answer: SampleAnswer) -> SampleResult
-    ensures { λ r. ⌜ Holds sampleOutcome sampleFields (answered answer) r ⌝ }
+    ensures { λ r. ⌜ r ≡ sampleFields (sampleOutcome answer) ⌝ }
 {
     match answer {
         SampleAnswer::Sampled(sample) => SampleResult {

@@ -5,9 +5,8 @@ use route_sheet::SheetAnswer;
 use route_sheet::SheetReading;
 use route_sheet::SheetRefusal;
 ghost use mathlib.Core.Path.{_≡_};
-ghost use Rattle.route_sheet.specs.Answer.{held};
-ghost use Rattle.nitswolan.specs.Fields.{sheetFields, sheetHeld};
-ghost use Rattle.nitswolan.specs.Inner.{Holds, lineOf};
+ghost use Rattle.route_sheet.specs.Answer.{numberAndLine};
+ghost use Rattle.nitswolan.specs.Fields.{sheetFields};
 
 // How many sets and moves the sheet lists, and the places that hold them. A place that none takes holds zeros. At refusal 11 `line` is
 // the line, from 1; else it is 0.
@@ -22,7 +21,7 @@ pub struct SheetResult {
 }
 
 fn line_of(refusal: SheetRefusal) -> u64
-    ensures { λ r. ⌜ r ≡ lineOf refusal ⌝ }
+    ensures { λ r. ⌜ r ≡ numberAndLine refusal .1 ⌝ }
 {
     match refusal {
         SheetRefusal::Malformed { line } => line,
@@ -31,7 +30,7 @@ fn line_of(refusal: SheetRefusal) -> u64
 }
 
 pub(crate) fn sheet_result(reading: SheetReading) -> SheetResult
-    ensures { λ r. ⌜ Holds sheetHeld sheetFields (held reading) r ⌝ }
+    ensures { λ r. ⌜ r ≡ sheetFields reading ⌝ }
 {
     let answer = reading.answer;
     let sets = reading.sets;

@@ -1,8 +1,8 @@
 // A table entry's answer for C.
 use motion::TableAnswer;
-ghost use Rattle.motion.specs.Answer.{tableOutcome as answered};
-ghost use Rattle.nitswolan.specs.Fields.{tableFields, tableOutcome};
-ghost use Rattle.nitswolan.specs.Inner.{Holds};
+ghost use mathlib.Core.Path.{_≡_};
+ghost use Rattle.motion.specs.Answer.{tableOutcome};
+ghost use Rattle.nitswolan.specs.Fields.{tableFields};
 
 // How many rows were written, from place 0 on.
 #[repr(C)]
@@ -12,7 +12,7 @@ pub struct TableResult {
 }
 
 pub(crate) fn table_result(answer: TableAnswer) -> TableResult
-    ensures { λ r. ⌜ Holds tableOutcome tableFields (answered answer) r ⌝ }
+    ensures { λ r. ⌜ r ≡ tableFields (tableOutcome answer) ⌝ }
 {
     match answer {
         TableAnswer::Filled(rows) => TableResult {

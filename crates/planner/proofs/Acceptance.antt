@@ -1,69 +1,67 @@
 -- Demand 2: "a move is accepted if its figures are in range and its rule needs at most 4,096 samples, and otherwise not".
-use mathlib.Core.Path.{_≡_, refl, sym, subst, _∙_}
-use mathlib.Core.Bool.{Bool, true, false}
-use mathlib.Core.List.{List, _∷_}
-use mathlib.Core.Logic.{_↔_}
+use mathlib.Core.Path.{_≡_, sym, subst, _∙_}
 use Prim.Native.Nat.{ℕ}
 use native.Mathlib.Nat.{pos-of-ne-zero}
 use native.Mathlib.Omega.{arith}
 use borrow.Author.Tests.{ne-eqb, le-ltb, ltb-false, eqb-false}
-use lib.IntN.{ℤ, natAbs}
-use Rattle.planner.specs.Quantities.{distance}
-use Rattle.planner.specs.Outcome.{Outcome, refused, Check, check, firstRefusal, mostCounts, mostSamples, samplesOf, rulePlan, outcomeOf, Plans}
-use Rattle.planner.specs.Accepted.{Accepted, IsPlanned}
-use Rattle.planner.proofs.RefusalLaws.{skip, none-left, plans, bound-in-range, bound-passes}
+use lib.IntN.{natAbs}
+use Rattle.planner.specs.Result.{Each, Result, refused, given}
+use Rattle.planner.specs.Outcome.{mostCounts, mostSamples, samplesOf, distanceOf, intervalsOf, planOf, checks, outcomeOf}
+use Rattle.planner.specs.Claims.{Accepted, IsPlanned, AcceptanceClaim}
+use Rattle.planner.specs.declared.Move.{Move}
+use Rattle.planner.specs.declared.Plan.{Plan}
+use Rattle.planner.proofs.RefusalLaws.{Passes, passed, all-pass, bound-in-range, bound-passes}
 
--- a plan passes each check
-record Passes (t : Bool) (xs : List Check) (o : Outcome) : Type 0 where
-  not-here : t ≡ false
-  rest : IsPlanned (firstRefusal refused xs o)
-
-passes : (n : ℕ) (t : Bool) (xs : List Check) (o : Outcome) → IsPlanned (firstRefusal refused (check n t ∷ xs) o) → Passes t xs o
-unfolding firstRefusal
-passes n true xs o h = absurd h
-passes n false xs o h = record { not-here = refl; rest = h }
-
-module _ (X : ℤ) (V₀ A₀ J₀ S₀ : ℕ) where
-  planned-accepted : IsPlanned (outcomeOf X V₀ A₀ J₀ S₀) → Accepted X V₀ A₀ J₀ S₀
-  unfolding outcomeOf
-  planned-accepted h =
-      let c₁ = passes _ _ _ _ h in
-      let c₂ = passes _ _ _ _ (c₁ .rest) in
-      let c₃ = passes _ _ _ _ (c₂ .rest) in
-      let c₄ = passes _ _ _ _ (c₃ .rest) in
-      let c₅ = passes _ _ _ _ (c₄ .rest) in
-      let c₆ = passes _ _ _ _ (c₅ .rest) in
-      let c₇ = passes _ _ _ _ (c₆ .rest) in
+module _ (m : Move) where
+  pub passed-accepted : Each Passes (checks m) → Accepted m
+  passed-accepted p =
       record {
         in-range =
             record {
-              moves = pos-of-ne-zero (eqb-false (natAbs X) 0 (c₁ .not-here));
-              near = ltb-false mostCounts (natAbs X) (c₂ .not-here);
-              velocity = bound-in-range V₀ (c₃ .not-here);
-              acceleration = bound-in-range A₀ (c₄ .not-here);
-              jerk = bound-in-range J₀ (c₅ .not-here);
-              snap = bound-in-range S₀ (c₆ .not-here);
+              moves = pos-of-ne-zero (eqb-false (natAbs (m .displacement)) 0 (p .0));
+              near = ltb-false mostCounts (natAbs (m .displacement)) (p .1 .0);
+              velocity = bound-in-range (m .velocity) (p .1 .1 .0);
+              acceleration = bound-in-range (m .acceleration) (p .1 .1 .1 .0);
+              jerk = bound-in-range (m .jerk) (p .1 .1 .1 .1 .0);
+              snap = bound-in-range (m .snap) (p .1 .1 .1 .1 .1 .0);
             };
-        short-enough = ltb-false mostSamples (samplesOf (distance X) V₀ A₀ J₀ S₀) (c₇ .not-here);
+        short-enough = ltb-false mostSamples (samplesOf m) (p .1 .1 .1 .1 .1 .1 .0);
       }
 
-  -- the plan of the rule's own intervals
-  pub accepted-outcome : Accepted X V₀ A₀ J₀ S₀ → outcomeOf X V₀ A₀ J₀ S₀ ≡ rulePlan (distance X) V₀ A₀ J₀ S₀
-  accepted-outcome h =
-      let i = h .in-range in
-      sym
-      (plans {X = X}
-      (skip (ne-eqb (natAbs X) 0 (λ q. omega (arith, i .moves)))
-      (skip (le-ltb mostCounts (natAbs X) (i .near))
-      (skip (bound-passes V₀ (i .velocity))
-      (skip (bound-passes A₀ (i .acceleration))
-      (skip (bound-passes J₀ (i .jerk))
-      (skip (bound-passes S₀ (i .snap))
-      (skip (le-ltb mostSamples (samplesOf (distance X) V₀ A₀ J₀ S₀) (h .short-enough)) none-left)))))))
-      .outcome-is)
+  pub accepted-passes : Accepted m → Each Passes (checks m)
+  accepted-passes h =
+      let i = h .in-range in (
+        ne-eqb (natAbs (m .displacement)) 0 (λ q. omega (arith, i .moves)),
+        (
+          le-ltb mostCounts (natAbs (m .displacement)) (i .near),
+          (
+            bound-passes (m .velocity) (i .velocity),
+            (
+              bound-passes (m .acceleration) (i .acceleration),
+              (
+                bound-passes (m .jerk) (i .jerk),
+                (
+                  bound-passes (m .snap) (i .snap),
+                  (le-ltb mostSamples (samplesOf m) (h .short-enough), tt),
+                ),
+              ),
+            ),
+          ),
+        ),
+      )
 
-  pub acceptance : (o : Outcome) → Plans X V₀ A₀ J₀ S₀ o → IsPlanned o ↔ Accepted X V₀ A₀ J₀ S₀
-  acceptance o h = (
-    λ p. planned-accepted (subst IsPlanned (h .outcome-is) p),
-    λ k. subst IsPlanned (sym (h .outcome-is ∙ accepted-outcome k)) tt,
-  )
+  -- the plan of the rule's own intervals
+  pub accepted-outcome : Accepted m → outcomeOf m ≡ given (planOf (distanceOf m) (intervalsOf m))
+  unfolding outcomeOf
+  accepted-outcome h = all-pass (checks m) _ (accepted-passes h)
+
+  planned-passes : (o : Result ℕ Plan) → o ≡ outcomeOf m → IsPlanned o → Each Passes (checks m)
+  unfolding outcomeOf
+  planned-passes (refused number) q h = absurd h
+  planned-passes (given x) q h = passed (checks m) _ x (sym q)
+
+pub acceptance : AcceptanceClaim
+acceptance m o h = (
+  λ p. passed-accepted m (planned-passes m o (h .outcome-is) p),
+  λ k. subst IsPlanned (sym (h .outcome-is ∙ accepted-outcome m k)) tt,
+)

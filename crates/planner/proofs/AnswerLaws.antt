@@ -2,14 +2,12 @@
 use mathlib.Core.Path.{_≡_, refl, sym, ap, _∙_}
 use Prim.Native.Nat.{ℕ, zero, suc, _≤_}
 use native.Mathlib.Omega.{arith}
-use Rattle.planner.specs.Outcome.{refused, planned}
-use Rattle.planner.specs.Answer.{number, outcome}
+use Rattle.planner.specs.Outcome.{number, outcome}
 use Rattle.planner.specs.declared.Refusal.{Refusal}
 use Rattle.planner.specs.declared.Refusal.the-variants.{NoDisplacement, DisplacementRange, VelocityRange, AccelerationRange, JerkRange, SnapRange, TooManySamples}
-use Rattle.planner.specs.declared.Plan.{Plan}
 use Rattle.planner.specs.declared.PlanAnswer.{PlanAnswer}
 use Rattle.planner.specs.declared.PlanAnswer.the-variants.{Planned, Refused}
-use Rattle.planner.proofs.Clash.{clash}
+use Rattle.planner.proofs.ResultLaws.{refused-or-given, same-refused, same-given}
 
 -- the refusal that a number from 1 to 7 names
 refusal : ℕ → Refusal
@@ -44,23 +42,8 @@ number-most JerkRange = omega arith
 number-most SnapRange = omega arith
 number-most TooManySamples = omega arith
 
-same-plan : (x y : Plan) → outcome (Planned x) ≡ outcome (Planned y) → x ≡ y
-same-plan x y h =
-    let a : x .a ≡ y .a = cc in
-    let b : x .b ≡ y .b = cc in
-    let c : x .c ≡ y .c = cc in
-    let e : x .e ≡ y .e = cc in
-    let snap : x .snap ≡ y .snap = cc in
-    let shortfall : x .shortfall ≡ y .shortfall = cc in
-    λ i. record { a = a i; b = b i; c = c i; e = e i; snap = snap i; shortfall = shortfall i }
-
-apart : {n a b c e D short : ℕ} → refused n ≡ planned a b c e D short → ⊥
-apart h = clash cc
-
 pub outcome-injective : (x y : PlanAnswer) → outcome x ≡ outcome y → x ≡ y
-outcome-injective (Planned x) (Planned y) h = ap Planned (same-plan x y h)
-outcome-injective (Planned x) (Refused y) h = absurd (apart (sym h))
-outcome-injective (Refused x) (Planned y) h = absurd (apart h)
-outcome-injective (Refused x) (Refused y) h =
-    let n : number x ≡ number y = cc in
-    ap Refused (number-injective x y n)
+outcome-injective (Planned x) (Planned y) h = ap Planned (same-given h)
+outcome-injective (Planned x) (Refused y) h = absurd (refused-or-given (number y) x (sym h))
+outcome-injective (Refused x) (Planned y) h = absurd (refused-or-given (number x) y h)
+outcome-injective (Refused x) (Refused y) h = ap Refused (number-injective x y (same-refused h))

@@ -3,9 +3,9 @@ use mathlib.Core.Path.{_≡_}
 use Prim.Native.Nat.{ℕ, _+_, _-_, _*_, _≤_, min}
 use native.Mathlib.Nat.{le-trans, le-of-eq, mul-pos, mul-assoc, le-of-mul-le-mul-right, div-mul-le-self, le-max-left}
 use native.Mathlib.Omega.{arith}
-use Rattle.planner.specs.Intervals.{interval-a, interval-b, interval-c, interval-e, a, b, c, e}
-use Rattle.planner.specs.Durations.{p, q, r, s, N, P, D}
-use Rattle.planner.specs.Facts.{Ordered, KeepsBounds}
+use Rattle.planner.specs.Intervals.{interval-a, interval-b, interval-c, interval-e, a, b, c, e, intervalsBy, Intervals, p, q, r, s, N, P, D}
+use Rattle.planner.specs.Inner.Facts.{Ordered, KeepsBounds}
+use Rattle.planner.specs.declared.Move.{Move}
 use Rattle.planner.proofs.LeastLaws.{least-positive}
 
 min-positive : {x y : ℕ} → 1 ≤ x → 1 ≤ y → 1 ≤ min x y
@@ -14,9 +14,9 @@ min-positive h k = omega arith
 pub one-interval-a : (W V₀ A₀ J₀ S₀ : ℕ) → 1 ≤ interval-a W V₀ A₀ J₀ S₀
 unfolding interval-a
 one-interval-a W V₀ A₀ J₀ S₀ =
-    min-positive (least-positive _) (min-positive (least-positive _) (min-positive (least-positive _) (least-positive _)))
+    min-positive (least-positive _ _) (min-positive (least-positive _ _) (min-positive (least-positive _ _) (least-positive _ _)))
 
-pub ordered : (W V₀ A₀ J₀ S₀ : ℕ) → Ordered (a W V₀ A₀ J₀ S₀) (b W V₀ A₀ J₀ S₀) (c W V₀ A₀ J₀ S₀) (e W V₀ A₀ J₀ S₀)
+pub ordered : (W V₀ A₀ J₀ S₀ : ℕ) → Ordered (intervalsBy W V₀ A₀ J₀ S₀)
 unfolding a b c e interval-b interval-c interval-e
 ordered W V₀ A₀ J₀ S₀ =
     record {
@@ -39,56 +39,56 @@ left-3 a b c e h = omega arith
 eightfold : (a b c e q r s : ℕ) → b ≡ a + q → c ≡ a + b + r → e ≡ a + b + c + s → a + b + c + e ≡ 8 * a + 4 * q + 2 * r + s
 eightfold a b c e q r s hb hc he = omega arith
 
-module _ {a b c e : ℕ} (o : Ordered a b c e) where
+module _ {t : Intervals} (o : Ordered t) where
   -- "N = a+b+c+e = 8p+4q+2r+s"
-  pub durations : N a b c e ≡ 8 * p a + 4 * q a b + 2 * r a b c + s a b c e
-  durations = eightfold a b c e (q a b) (r a b c) (s a b c e) (left-1 a b (o .a-b)) (left-2 a b c (o .ab-c)) (left-3 a b c e (o .abc-e))
+  pub durations : N t ≡ 8 * p t + 4 * q t + 2 * r t + s t
+  durations =
+      eightfold (t .a) (t .b) (t .c) (t .e) (q t) (r t) (s t) (left-1 (t .a) (t .b) (o .a-b)) (left-2 (t .a) (t .b) (t .c) (o .ab-c))
+      (left-3 (t .a) (t .b) (t .c) (t .e) (o .abc-e))
 
-  pub one-b : 1 ≤ b
+  pub one-b : 1 ≤ t .b
   one-b = omega (arith, o .one-a, o .a-b)
 
-  pub one-c : 1 ≤ c
+  pub one-c : 1 ≤ t .c
   one-c = omega (arith, o .one-a, o .ab-c)
 
-  one-e : 1 ≤ e
+  one-e : 1 ≤ t .e
   one-e = omega (arith, o .one-a, o .abc-e)
 
-  pub product-positive : 1 ≤ P a b c e
+  pub product-positive : 1 ≤ P t
   product-positive = mul-pos (mul-pos (mul-pos (o .one-a) one-b) one-c) one-e
 
   -- each bound from the one after it: the last interval covers W, and each interval covers the bound that was carried on
-  module _ (W V₀ A₀ J₀ S₀ J₁ A₁ V₁ : ℕ)
-      (covers-W : W ≤ V₁ * e)
-      (covers-V : V₁ ≤ A₁ * c)
-      (covers-A : A₁ ≤ J₁ * b)
-      (covers-J : J₁ ≤ S₀ * a) where
+  module _ (W : ℕ) (m : Move) (J₁ A₁ V₁ : ℕ)
+      (covers-W : W ≤ V₁ * t .e)
+      (covers-V : V₁ ≤ A₁ * t .c)
+      (covers-A : A₁ ≤ J₁ * t .b)
+      (covers-J : J₁ ≤ m .snap * t .a) where
     snap : ℕ
-    snap = D W a b c e
+    snap = D t W
 
-    regroup : snap * a * b * c * e ≡ snap * P a b c e
+    regroup : snap * t .a * t .b * t .c * t .e ≡ snap * P t
     regroup =
-        rw (mul-assoc (snap * a * b) c e, mul-assoc (snap * a) b (c * e), mul-assoc snap a (b * (c * e)))
-        (rw (mul-assoc (a * b) c e, mul-assoc a b (c * e)))
+        rw (mul-assoc (snap * t .a * t .b) (t .c) (t .e), mul-assoc (snap * t .a) (t .b) (t .c * t .e), mul-assoc snap (t .a) (t .b * (t .c * t .e)))
+        (rw (mul-assoc (t .a * t .b) (t .c) (t .e), mul-assoc (t .a) (t .b) (t .c * t .e)))
 
-    velocity : snap * a * b * c ≤ V₁
+    velocity : snap * t .a * t .b * t .c ≤ V₁
     unfolding snap
-    velocity = le-of-mul-le-mul-right (le-trans (le-of-eq regroup) (le-trans (div-mul-le-self W (P a b c e)) covers-W)) one-e
+    velocity = le-of-mul-le-mul-right (le-trans (le-of-eq regroup) (le-trans (div-mul-le-self W (P t)) covers-W)) one-e
 
-    acceleration : snap * a * b ≤ A₁
+    acceleration : snap * t .a * t .b ≤ A₁
     acceleration = le-of-mul-le-mul-right (le-trans velocity covers-V) one-c
 
-    jerk : snap * a ≤ J₁
+    jerk : snap * t .a ≤ J₁
     jerk = le-of-mul-le-mul-right (le-trans acceleration covers-A) one-b
 
-    pub keeps-bounds : V₁ ≤ V₀ → A₁ ≤ A₀ → J₁ ≤ J₀ → KeepsBounds V₀ A₀ J₀ S₀ J₁ A₁ V₁ (D W a b c e) a b c
+    pub keeps-bounds : V₁ ≤ m .velocity → A₁ ≤ m .acceleration → J₁ ≤ m .jerk → KeepsBounds m t (D t W)
     unfolding snap
     keeps-bounds hv ha hj =
         record {
           snap = le-of-mul-le-mul-right (le-trans jerk covers-J) (o .one-a);
-          jerk = jerk;
-          jerk-bound = hj;
-          acceleration = acceleration;
-          acceleration-bound = ha;
-          velocity = velocity;
-          velocity-bound = hv;
+          jerk = le-trans jerk hj;
+          acceleration = rw (mul-assoc (D t W) (t .a) (t .b)) at (le-trans acceleration ha);
+          velocity =
+              rw (mul-assoc (D t W) (t .a) (t .b), mul-assoc (D t W) (t .a * t .b) (t .c)) at (le-trans velocity hv);
         }

@@ -1,24 +1,21 @@
 -- From the searches' capped numbers to the rule's intervals: each agrees with its rule as far as 4,096, and so do their sums.
 use mathlib.Core.Path.{_≡_, refl, sym, ap, ap₂, subst, _∙_}
-use mathlib.Core.Bool.{Bool}
 use mathlib.Core.Logic.{_⊎_, inl, inr, ⊎-elim}
 use Prim.Native.Nat.{ℕ, _*_, _≤_, _<_, min, max}
 use native.Mathlib.Nat.{max-min-distrib-left, max-eq-right}
 use native.Mathlib.Omega.{arith}
 use native.Mathlib.Decide.{decLt}
 use Rattle.planner.specs.Least.{least}
-use Rattle.planner.specs.Intervals.{interval-a, interval-b, interval-c, interval-e, a, J₁, b, A₁, c, V₁, e}
-use Rattle.planner.specs.Durations.{N}
-use Rattle.planner.specs.Outcome.{samplesOf}
+use Rattle.planner.specs.Intervals.{interval-a, interval-b, interval-c, interval-e, a, J₁, b, A₁, c, V₁, e, intervalsBy, Intervals, N}
 use Rattle.planner.specs.Inner.Capped.{Agrees, Carried, IntervalsAgree}
 
 -- x is m, but not below lo and not above hi
 pub record Between (lo hi x m : ℕ) : Type 0 where
   pub value : x ≡ max lo (min hi m)
 
--- what the first search gives, under the paper's form q of its property p
-pub between : {p : ℕ → Bool} {lo hi x : ℕ} (q : ℕ → Bool) → p ≡ q → x ≡ max lo (min hi (least p)) → Between lo hi x (least q)
-between {lo = lo} {hi = hi} {x = x} q h v = record { value = subst (λ (f : ℕ → Bool). x ≡ max lo (min hi (least f))) h v }
+-- what the first search gives, under the paper's form g of what is to reach t
+pub between : (t : ℕ) {lo hi x : ℕ} {f g : ℕ → ℕ} → f ≡ g → x ≡ max lo (min hi (least t f)) → Between lo hi x (least t g)
+between t {lo} {hi} h v = record { value = v ∙ ap (λ (f : ℕ → ℕ). max lo (min hi (least t f))) h }
 
 max-max : (x y : ℕ) → max x (max x y) ≡ max x y
 max-max x y = omega arith
@@ -35,13 +32,10 @@ narrower lo hi m n =
     ∙ ap (max lo) (min-min hi m n)
 
 pub between-min :
-    {p : ℕ → Bool} {lo hi x y m : ℕ} (q : ℕ → Bool) → p ≡ q → Between lo hi x m → y ≡ max lo (min x (least p)) → Between lo hi y (min (least q) m)
-between-min {p} {lo} {hi} {x} {y} {m} q h b v =
-    record {
-      value =
-          v ∙ ap (λ (f : ℕ → Bool). max lo (min x (least f))) h ∙ ap (λ (z : ℕ). max lo (min z (least q))) (b .value)
-          ∙ narrower lo hi m (least q);
-    }
+    (t : ℕ) {lo hi x y m : ℕ} {f g : ℕ → ℕ} → f ≡ g → Between lo hi x m → y ≡ max lo (min x (least t f)) →
+    Between lo hi y (min (least t g) m)
+between-min t {lo} {hi} {m = m} {g = g} h first v =
+    record { value = between t h v .value ∙ ap (λ (z : ℕ). max lo (min z (least t g))) (first .value) ∙ narrower lo hi m (least t g) }
 
 -- an interval that is never below lo agrees with the rule as far as 4,096, where its span does not end sooner
 pub agrees : {lo hi r m : ℕ} (most : ℕ) → Between lo hi r m → 1 ≤ lo → lo ≤ hi → 4097 ≤ hi → hi ≤ most → Agrees 4097 most r (max lo m)
@@ -71,12 +65,18 @@ module _ (W V₀ A₀ J₀ S₀ ra j1 rb a1 rc v1 re : ℕ)
     (hv : Carried V₀ a1 rc v1)
     (ge : Agrees 4097 16388 re (interval-e W v1 ra rb rc))
   where
+    abbrev found : Intervals
+    found = record { a = ra; b = rb; c = rc; e = re }
+
+    abbrev rule : Intervals
+    rule = intervalsBy W V₀ A₀ J₀ S₀
+
     -- one of the two sums is below the cap
     abbrev Short : Type 0
-    Short = (N ra rb rc re < 4097) ⊎ (samplesOf W V₀ A₀ J₀ S₀ < 4097)
+    Short = (N found < 4097) ⊎ (N rule < 4097)
 
     same-a : Short → ra ≡ a W V₀ A₀ J₀ S₀
-    unfolding a samplesOf
+    unfolding a
     same-a h = same ga refl (part (omega arith) (omega arith) h)
 
     same-J₁ : Short → j1 ≡ J₁ W V₀ A₀ J₀ S₀
@@ -84,7 +84,7 @@ module _ (W V₀ A₀ J₀ S₀ ra j1 rb a1 rc v1 re : ℕ)
     same-J₁ h = hj .value ∙ ap (λ (x : ℕ). min J₀ (S₀ * x)) (same-a h)
 
     same-b : Short → rb ≡ b W V₀ A₀ J₀ S₀
-    unfolding b samplesOf
+    unfolding b
     same-b h = same gb (ap₂ (interval-b W V₀ A₀) (same-J₁ h) (same-a h)) (part (omega arith) (omega arith) h)
 
     same-A₁ : Short → a1 ≡ A₁ W V₀ A₀ J₀ S₀
@@ -92,7 +92,7 @@ module _ (W V₀ A₀ J₀ S₀ ra j1 rb a1 rc v1 re : ℕ)
     same-A₁ h = ha .value ∙ ap₂ (λ (x y : ℕ). min A₀ (x * y)) (same-J₁ h) (same-b h)
 
     same-c : Short → rc ≡ c W V₀ A₀ J₀ S₀
-    unfolding c samplesOf
+    unfolding c
     same-c h =
         same gc (ap (λ (x : ℕ). interval-c W V₀ x ra rb) (same-A₁ h) ∙ ap₂ (interval-c W V₀ (A₁ W V₀ A₀ J₀ S₀)) (same-a h) (same-b h))
         (part (omega arith) (omega arith) h)
@@ -102,32 +102,26 @@ module _ (W V₀ A₀ J₀ S₀ ra j1 rb a1 rc v1 re : ℕ)
     same-V₁ h = hv .value ∙ ap₂ (λ (x y : ℕ). min V₀ (x * y)) (same-A₁ h) (same-c h)
 
     same-e : Short → re ≡ e W V₀ A₀ J₀ S₀
-    unfolding e samplesOf
+    unfolding e
     same-e h =
         same ge
         (ap₂ (λ (x y : ℕ). interval-e W x y rb rc) (same-V₁ h) (same-a h)
         ∙ ap₂ (interval-e W (V₁ W V₀ A₀ J₀ S₀) (a W V₀ A₀ J₀ S₀)) (same-b h) (same-c h))
         (part (omega arith) (omega arith) h)
 
-    same-samples : Short → N ra rb rc re ≡ samplesOf W V₀ A₀ J₀ S₀
-    unfolding samplesOf
-    same-samples h = omega (arith, same-a h, same-b h, same-c h, same-e h)
+    same-all : Short → found ≡ rule
+    same-all h = λ i. record { a = same-a h i; b = same-b h i; c = same-c h i; e = same-e h i }
 
-    capped-samples :
-        Dec (N ra rb rc re < 4097) → Dec (samplesOf W V₀ A₀ J₀ S₀ < 4097)
-        → min 4097 (N ra rb rc re) ≡ min 4097 (samplesOf W V₀ A₀ J₀ S₀)
-    capped-samples (yes h) d = ap (min 4097) (same-samples (inl h))
-    capped-samples (no h) (yes k) = ap (min 4097) (same-samples (inr k))
+    capped-samples : Dec (N found < 4097) → Dec (N rule < 4097) → min 4097 (N found) ≡ min 4097 (N rule)
+    capped-samples (yes h) d = ap (λ (t : Intervals). min 4097 (N t)) (same-all (inl h))
+    capped-samples (no h) (yes k) = ap (λ (t : Intervals). min 4097 (N t)) (same-all (inr k))
     capped-samples (no h) (no k) = omega arith
 
-    pub intervals-agree : IntervalsAgree 4097 W V₀ A₀ J₀ S₀ ra rb rc re
+    pub intervals-agree : IntervalsAgree 4097 W V₀ A₀ J₀ S₀ found
     intervals-agree =
         record {
-          samples = capped-samples (decLt (N ra rb rc re) 4097) (decLt (samplesOf W V₀ A₀ J₀ S₀) 4097);
-          same-a = λ h. same-a (inl h);
-          same-b = λ h. same-b (inl h);
-          same-c = λ h. same-c (inl h);
-          same-e = λ h. same-e (inl h);
+          samples = capped-samples (decLt (N found) 4097) (decLt (N rule) 4097);
+          same = λ h. same-all (inl h);
           positive = (ga .positive, gb .positive, gc .positive, ge .positive);
           at-most = (ga .at-most, gb .at-most, gc .at-most, ge .at-most);
         }

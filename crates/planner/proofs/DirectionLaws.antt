@@ -7,7 +7,7 @@ use borrow.Author.Tests.{ltb-true}
 use lib.Dec.{ltb→lt}
 use lib.IntN.{ℤ, pos, negsuc, negℤ, natAbs, _+ℤ_, negℤ-+ℤ}
 use lib.Signed.{ltZ, _≤ℤ_, _<ℤ_}
-use Rattle.planner.specs.Direction.{along}
+use Rattle.planner.specs.Quantities.{along}
 
 pub along-negative : (X value : ℤ) → ltZ X (pos 0) ≡ true → along X value ≡ negℤ value
 unfolding along

@@ -1,5 +1,6 @@
 -- Laws that the proofs of the code cite: the search, its form, the cap, the sign and the checks.
 pub mod Clash
+pub mod ResultLaws
 pub mod LeastLaws
 pub mod SpanLaws
 pub mod Ceiling
@@ -13,8 +14,9 @@ pub mod RuleRefusals
 -- What the rules come to: laws of the intervals, and the theorems.
 pub mod BoundLaws
 pub mod ProductBound
-pub mod TenLeastNumbers
+pub mod CarriedLaws
 pub mod Acceptance
 pub mod PlannedFacts
+pub mod TenLeastNumbers
 pub mod StarredMoves
 pub mod AnswerLaws

@@ -2,8 +2,8 @@
 use Prim.Native.Nat.{ℕ, _+_, _*_, _^_, _≤_}
 use native.Mathlib.Nat.{mul-le-mul, mul-le-mul-left, mul-le-mul-right, mul-assoc, mul-comm, mul-add, add-mul, mul-left-comm, le-dest}
 use native.Mathlib.Omega.{arith}
-use Rattle.planner.specs.Durations.{N, P}
-use Rattle.planner.specs.Facts.{Ordered}
+use Rattle.planner.specs.Intervals.{Intervals, N, P}
+use Rattle.planner.specs.Inner.Facts.{Ordered}
 
 square : (x d : ℕ) → 4 * (x * (x + d)) ≤ (x + (x + d)) * (x + (x + d))
 square x d = simp (mul-add, add-mul) (omega (arith, mul-comm x d))
@@ -31,14 +31,15 @@ module _ (a b c : ℕ) (ab : a ≤ b) (uc : a + b ≤ c) where
       let third : v * v * (2 * u) ≤ v * v * v = mul-le-mul-left (v * v) half in
       omega (arith, sixteen, third, mul-left-comm (v * v) 2 u)
 
-pub product-bound : {a b c e : ℕ} → Ordered a b c e → N a b c e ≤ 4096 → P a b c e ≤ 2 ^ 39
-product-bound {a} {b} {c} {e} o h =
-    let w : ℕ = a + b + c in
+pub product-bound : {t : Intervals} → Ordered t → N t ≤ 4096 → P t ≤ 2 ^ 39
+product-bound {t} o h =
+    let w : ℕ = t .a + t .b + t .c in
     let half : w ≤ 2048 = omega (arith, o .abc-e) in
     let squares : w * w ≤ 2048 * 2048 = mul-le-mul half half in
-    let last : 4 * (w * e) ≤ (w + e) * (w + e) = four-products (o .abc-e) in
-    let all : (w + e) * (w + e) ≤ 4096 * 4096 = mul-le-mul h h in
-    let ends : w * e ≤ 2 ^ 22 = omega arith in
-    let product : w * w * (w * e) ≤ 2048 * 2048 * 2 ^ 22 = mul-le-mul squares ends in
-    let cubes : 32 * (a * b * c) * e ≤ w * w * w * e = mul-le-mul-right e (thirty-two a b c (o .a-b) (o .ab-c)) in
-    omega (arith, cubes, product, mul-assoc 32 (a * b * c) e, mul-assoc (w * w) w e)
+    let last : 4 * (w * t .e) ≤ (w + t .e) * (w + t .e) = four-products (o .abc-e) in
+    let all : (w + t .e) * (w + t .e) ≤ 4096 * 4096 = mul-le-mul h h in
+    let ends : w * t .e ≤ 2 ^ 22 = omega arith in
+    let product : w * w * (w * t .e) ≤ 2048 * 2048 * 2 ^ 22 = mul-le-mul squares ends in
+    let cubes : 32 * (t .a * t .b * t .c) * t .e ≤ w * w * w * t .e =
+    mul-le-mul-right (t .e) (thirty-two (t .a) (t .b) (t .c) (o .a-b) (o .ab-c)) in
+    omega (arith, cubes, product, mul-assoc 32 (t .a * t .b * t .c) (t .e), mul-assoc (w * w) w (t .e))

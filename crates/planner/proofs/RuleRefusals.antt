@@ -1,29 +1,26 @@
--- The rule refuses with no number above 7.
+-- The rule refuses with no number above 7, and with none below 1.
 use mathlib.Core.Bool.{true, false}
 use mathlib.Core.List.{List, [], _∷_}
 use mathlib.Core.Path.{_≡_}
 use Prim.Native.Nat.{ℕ, _≤_}
 use native.Mathlib.Omega.{arith}
-use lib.IntN.{ℤ}
-use Rattle.planner.specs.Quantities.{distance}
-use Rattle.planner.specs.Lists.{Each}
-use Rattle.planner.specs.Outcome.{Outcome, refused, Check, check, firstRefusal, checks, rulePlan, outcomeOf}
+use Rattle.planner.specs.Result.{Each, refused, given, Check, check, firstRefusal}
+use Rattle.planner.specs.Outcome.{checks, distanceOf, intervalsOf, planOf, outcomeOf}
+use Rattle.planner.specs.declared.Move.{Move}
 use Rattle.planner.proofs.Clash.{clash}
 
--- a check has a number of at most `most`
-abbrev NumberMost : ℕ → Check → Type 0
-NumberMost most (check number applies) = number ≤ most
+-- a check has a number from `least` to `most`
+abbrev pub NumberWithin : (least most : ℕ) → Check → Type 0
+NumberWithin least most (check number applies) = (least ≤ number) × (number ≤ most)
 
-first-most :
-    (most : ℕ) (xs : List Check) (o : Outcome) → Each (NumberMost most) xs → ((n : ℕ) → o ≡ refused n → n ≤ most) →
-    (n : ℕ) → firstRefusal refused xs o ≡ refused n → n ≤ most
+pub refusal-within :
+    {A : Type 0} (least most : ℕ) (xs : List Check) (x : A) → Each (NumberWithin least most) xs →
+    (n : ℕ) → firstRefusal xs (given x) ≡ refused n → (least ≤ n) × (n ≤ most)
 unfolding firstRefusal
-first-most most [] o h k n e = k n e
-first-most most (check number true ∷ xs) o h k n e = let same : number ≡ n = cc in omega (arith, h .0)
-first-most most (check number false ∷ xs) o h k n e = first-most most xs o (h .1) k n e
+refusal-within least most [] x h n e = absurd (clash cc)
+refusal-within least most (check number true ∷ xs) x h n e = let same : number ≡ n = cc in (omega (arith, h .0), omega (arith, h .0))
+refusal-within least most (check number false ∷ xs) x h n e = refusal-within least most xs x (h .1) n e
 
-pub refused-most : (X : ℤ) (V₀ A₀ J₀ S₀ n : ℕ) → outcomeOf X V₀ A₀ J₀ S₀ ≡ refused n → n ≤ 7
+pub refused-most : (m : Move) (n : ℕ) → outcomeOf m ≡ refused n → (1 ≤ n) × (n ≤ 7)
 unfolding outcomeOf
-refused-most X V₀ A₀ J₀ S₀ =
-    first-most 7 (checks X V₀ A₀ J₀ S₀) (rulePlan (distance X) V₀ A₀ J₀ S₀) (omega arith)
-    (λ n e. absurd (clash cc))
+refused-most m = refusal-within 1 7 (checks m) (planOf (distanceOf m) (intervalsOf m)) (omega arith)

@@ -1,13 +1,10 @@
--- The rules of document 01 in its order; then what the theorems say of them; last what only the contracts of private functions cite.
+-- The rules of document 01 in its order; then what the theorems say of them; last what only proofs and the contracts of private functions
+-- cite.
 pub mod Quantities
-pub mod Direction
 pub mod Least
 pub mod Intervals
-pub mod Durations
+pub mod Result
 pub mod Outcome
-pub mod Accepted
-pub mod Answer
-pub mod Facts
+pub mod Claims
 pub mod Starred
-pub mod Lists
 pub mod Inner

@@ -5,7 +5,7 @@ use crate::Refusal;
 use crate::intervals::find_intervals;
 ghost use mathlib.Core.Path.{_≡_};
 ghost use Prim.Native.Nat.{_-_, _*_, _/_, _≤_};
-ghost use Rattle.planner.specs.Answer.{outcome};
+ghost use Rattle.planner.specs.Outcome.{outcome};
 ghost use Rattle.planner.specs.Inner.Capped.{Figures, planWithin};
 
 // The most samples that a move may take.

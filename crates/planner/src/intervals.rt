@@ -4,8 +4,8 @@ use crate::search::least_interval;
 ghost use mathlib.Core.Path.{_≡_};
 ghost use Prim.Native.Nat.{_^_, _≤_, max};
 ghost use Rattle.planner.specs.Intervals.{interval-a, interval-b, interval-c, interval-e};
-ghost use Rattle.planner.specs.Accepted.{BoundInRange};
-ghost use Rattle.planner.specs.Inner.Capped.{Agrees, Carried, Figures, IntervalsAgree};
+ghost use Rattle.planner.specs.Claims.{BoundInRange};
+ghost use Rattle.planner.specs.Inner.Capped.{Agrees, Carried, Figures, IntervalsAgree, found};
 
 // A plan has at most 4,096 samples, so a search need tell no numbers from here on apart.
 const CAP: u64 = 4097;
@@ -72,7 +72,7 @@ fn interval_e(w: u64, v1: u64, a: u64, b: u64, c: u64) -> u64
 
 pub(crate) fn find_intervals(w: u64, v: u64, acc: u64, j: u64, s: u64) -> Intervals
     requires { ⌜ Figures w v acc j s ⌝ }
-    ensures { λ r. ⌜ IntervalsAgree 4097 w v acc j s (r .a) (r .b) (r .c) (r .e) ⌝ }
+    ensures { λ r. ⌜ IntervalsAgree 4097 w v acc j s (found r) ⌝ }
 {
     let a = interval_a(w, v, acc, j, s);
     let j1 = carried(j, s, a);

@@ -8,8 +8,7 @@ use crate::checks::out_of_range;
 use crate::in_range::plan_in_range;
 pub use checks::magnitude;
 ghost use mathlib.Core.Path.{_≡_};
-ghost use Rattle.planner.specs.Outcome.{Plans};
-ghost use Rattle.planner.specs.Answer.{number, outcome};
+ghost use Rattle.planner.specs.Outcome.{Plans, number, outcome};
 
 // Sub-count units in a count: the paper's G, in grains.
 pub const UNITS_PER_COUNT: u64 = 1_099_511_627_776;
@@ -56,7 +55,7 @@ pub enum PlanAnswer {
 
 // Plans a move, or names the lowest refusal that applies.
 pub fn plan_move(m: Move) -> PlanAnswer
-    ensures { λ r. ⌜ Plans (m .displacement) (m .velocity) (m .acceleration) (m .jerk) (m .snap) (outcome r) ⌝ }
+    ensures { λ r. ⌜ Plans m (outcome r) ⌝ }
 {
     let size = magnitude(m.displacement);
     if size == 0 {

@@ -1,9 +1,8 @@
 // The search for the least interval that reaches a target.
 ghost use mathlib.Core.Path.{_≡_};
-ghost use Prim.Native.Nat.{ℕ, _^_, _≤_, min, max};
-ghost use lib.Dec.{leb};
+ghost use Prim.Native.Nat.{_^_, _≤_, min, max};
 ghost use Rattle.planner.specs.Least.{least};
-ghost use Rattle.planner.specs.Inner.Search.{growth, reaches, LeastWithin, SearchArgs, ReachArgs};
+ghost use Rattle.planner.specs.Inner.Search.{growth, scaled, LeastWithin, SearchArgs, ReachArgs};
 
 // m^d. A match is quicker here than a loop: d is the same in all turns of a search.
 fn power(m: u64, d: u64) -> u64
@@ -22,7 +21,7 @@ fn power(m: u64, d: u64) -> u64
 // lo to hi is halved until one number is left.
 fn search(u: u64, d: u64, t: u64, lo: u64, hi: u64) -> u64
     requires { ⌜ SearchArgs 4097 u d lo hi ⌝ }
-    ensures { λ r. ⌜ LeastWithin (λ (n : ℕ). leb t (growth u d n)) lo hi r ⌝ }
+    ensures { λ r. ⌜ LeastWithin t (growth u d) lo hi r ⌝ }
 {
     if lo == hi {
         return lo;
@@ -40,7 +39,7 @@ fn search(u: u64, d: u64, t: u64, lo: u64, hi: u64) -> u64
 // the bound k to the other side, so that no product passes 64 bits.
 pub(crate) fn least_interval(k: u64, u: u64, d: u64, t: u64, lo: u64, hi: u64) -> u64
     requires { ⌜ ReachArgs 4097 k u d t lo hi ⌝ }
-    ensures { λ r. ⌜ r ≡ max lo (min hi (least (reaches k u d t))) ⌝ }
+    ensures { λ r. ⌜ r ≡ max lo (min hi (least t (scaled k u d))) ⌝ }
 {
     search(u, d, (t + (k - 1)) / k, lo, hi)
 }

@@ -5,7 +5,7 @@ use Prim.Native.Nat.{ℕ, _+_, _-_, _≤_}
 use native.Mathlib.Nat.{sub-le, zero-sub}
 use native.Mathlib.Omega.{arith}
 use native.Mathlib.Decide.{decLe}
-use Rattle.profile.specs.Widths.{span, Spread}
+use Rattle.profile.specs.Inner.Widths.{span, Spread}
 use Rattle.profile.proofs.RampLaws.{Ramp, below-top}
 use Rattle.profile.proofs.Delays.{delay, delays}
 

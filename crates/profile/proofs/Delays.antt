@@ -4,7 +4,7 @@ use mathlib.Core.List.{List, [], _∷_, _++_}
 use Prim.Native.Nat.{ℕ, _+_, _-_}
 use native.Mathlib.Nat.{zero-sub}
 use native.Mathlib.Omega.{arith}
-use Rattle.profile.specs.Widths.{total}
+use Rattle.profile.specs.Inner.Widths.{total}
 use Rattle.profile.proofs.Totals.{total-late}
 
 -- f, with g delayed by each width, and f delayed again by two; g comes to `delays ws g f`. Both start at 0, so that k - w is right

@@ -8,9 +8,8 @@ use native.Mathlib.Omega.{arith}
 use lib.Dec.{ltb}
 use lib.IntN.{ℤ, pos, negℤ, _+ℤ_}
 use borrow.Author.Tests.{ltb-true, ltb-false}
-use Rattle.profile.specs.Segments.{level, positive, segment, signed, snapIn}
-use Rattle.profile.specs.Sums.{sum}
-use Rattle.profile.specs.Widths.{Spread, switched, ramp}
+use Rattle.profile.specs.Profile.{level, positive, segment, snapIn, sum}
+use Rattle.profile.specs.Inner.Widths.{Spread, switched, ramp}
 use Rattle.profile.proofs.Differences.{Difference, none-is, one-is, plus, negated, same}
 use Rattle.profile.proofs.SumLaws.{sum-of-equal, sum-negated, sum-joined}
 use Rattle.profile.proofs.SwitchedLaws.{snap-rests, snap-switched}
@@ -28,7 +27,7 @@ module _ (a D : ℕ) where
   sample-is k false e = same none-is (omega (arith, ltb-false k a e))
 
   first-samples : (k : ℕ) → Difference D (sum (snapIn (segment a positive ∷ []) D) k) (min k a) 0
-  unfolding sum snapIn signed level
+  unfolding sum snapIn level
   first-samples zero = same none-is (omega arith)
   first-samples (suc k) = same (plus (first-samples k) (sample-is k (ltb k a) refl)) (omega arith)
 

@@ -4,11 +4,11 @@ use mathlib.Core.List.{[], _∷_}
 use Prim.Native.Nat.{ℕ, _+_, _-_, _*_, _≤_}
 use native.Mathlib.Nat.{sub-add-eq}
 use lib.IntN.{pos}
-use Rattle.profile.specs.Segments.{segments}
-use Rattle.profile.specs.Sums.{sums}
+use Rattle.profile.specs.Profile.{segments}
+use Rattle.profile.specs.Inner.Repeated.{sums}
 use Rattle.profile.specs.Profile as profile
-use Rattle.profile.specs.Widths.{span, product, Spread, opposite, withOppositeSigns, switched}
-use Rattle.profile.specs.Facts.{At, AtEnd}
+use Rattle.profile.specs.Inner.Widths.{span, product, Spread, opposite, withOppositeSigns, switched}
+use Rattle.profile.specs.Inner.Facts.{At, AtEnd}
 use Rattle.profile.proofs.RampLaws.{ramp-top, ramp-full}
 use Rattle.profile.proofs.SnapLaws.{snap-size}
 use Rattle.profile.proofs.SwitchedLaws.{snap-rests}

@@ -5,7 +5,7 @@ use mathlib.Core.List.{List}
 use Prim.Native.Nat.{ℕ, _+_, _*_, _≤_, _<_}
 use native.Mathlib.Nat.{le-trans, mul-assoc, mul-left-comm, add-mul, mul-le-mul-left, mul-le-mul-right}
 use native.Mathlib.Omega.{arith}
-use Rattle.profile.specs.Widths.{product, ramp}
+use Rattle.profile.specs.Inner.Widths.{product, ramp}
 use Rattle.profile.proofs.RampLaws.{ramp-top}
 
 module _ (a : ℕ) (ws : List ℕ) (W D short : ℕ) (whole : D * product a ws + short ≡ W) (k : ℕ) where

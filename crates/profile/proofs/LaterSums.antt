@@ -6,8 +6,9 @@ use native.Mathlib.Nat.{sub-le}
 use native.Mathlib.Omega.{arith}
 use lib.IntN.{ℤ}
 use lib.ListN.{length}
-use Rattle.profile.specs.Sums.{sum, sums}
-use Rattle.profile.specs.Widths.{total, ramp}
+use Rattle.profile.specs.Profile.{sum}
+use Rattle.profile.specs.Inner.Repeated.{sums}
+use Rattle.profile.specs.Inner.Widths.{total, ramp}
 use Rattle.profile.proofs.Differences.{Difference, none-is, plus, same}
 use Rattle.profile.proofs.Totals.{total-rising, total-of-none}
 use Rattle.profile.proofs.RampLaws.{ramp-start}

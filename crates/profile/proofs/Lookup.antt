@@ -8,8 +8,8 @@ use native.Mathlib.Omega.{arith}
 use lib.Dec.{ltb}
 use lib.IntN.{ℤ, pos}
 use borrow.Author.Tests.{lt-ltb, le-ltb, ltb-false}
-use Rattle.profile.specs.Segments.{Sign, none, Segment, segment, level, signed, snapIn}
-use Rattle.profile.specs.Widths.{withOppositeSigns}
+use Rattle.profile.specs.Profile.{Sign, none, Segment, segment, level, snapIn}
+use Rattle.profile.specs.Inner.Widths.{snapWith, withOppositeSigns}
 
 -- the samples of all segments
 unfoldable pub samples : List Segment → ℕ
@@ -27,11 +27,11 @@ samples-opposite [] = refl
 samples-opposite (segment n g ∷ xs) = ap (λ (m : ℕ). n + m) (samples-opposite xs)
 
 module _ (n : ℕ) (g : Sign) (xs : List Segment) (D k : ℕ) where
-  by-test : (t : Bool) → ltb k n ≡ t → snapIn (segment n g ∷ xs) D k ≡ cond t (signed g D) (snapIn xs D (k - n))
+  by-test : (t : Bool) → ltb k n ≡ t → snapIn (segment n g ∷ xs) D k ≡ cond t (snapWith g D) (snapIn xs D (k - n))
   unfolding snapIn
-  by-test t e = ap (λ (u : Bool). cond u (signed g D) (snapIn xs D (k - n))) e
+  by-test t e = ap (λ (u : Bool). cond u (snapWith g D) (snapIn xs D (k - n))) e
 
-  pub snap-first : k < n → snapIn (segment n g ∷ xs) D k ≡ signed g D
+  pub snap-first : k < n → snapIn (segment n g ∷ xs) D k ≡ snapWith g D
   snap-first h = by-test true (lt-ltb k n h)
 
   pub snap-next : n ≤ k → snapIn (segment n g ∷ xs) D k ≡ snapIn xs D (k - n)
@@ -45,7 +45,7 @@ pub snap-in-front : (xs ys : List Segment) (D k : ℕ) → k < samples xs → sn
 unfolding samples snapIn
 snap-in-front [] ys D k h = absurd (omega arith)
 snap-in-front (segment n g ∷ xs) ys D k h =
-    else-equal (ltb k n) (signed g D) (snapIn (xs ++ ys) D (k - n)) (snapIn xs D (k - n))
+    else-equal (ltb k n) (snapWith g D) (snapIn (xs ++ ys) D (k - n)) (snapIn xs D (k - n))
     (λ e. snap-in-front xs ys D (k - n) (omega (arith, ltb-false k n e)))
 
 pub snap-behind : (xs ys : List Segment) (D k : ℕ) → samples xs ≤ k → snapIn (xs ++ ys) D k ≡ snapIn ys D (k - samples xs)
@@ -62,11 +62,11 @@ snap-ends xs D k h = ap (λ (l : List Segment). snapIn l D k) (sym (append-nil x
 
 -- a last segment without snap changes nothing
 pub snap-rested : (xs : List Segment) (n D k : ℕ) → snapIn (xs ++ (segment n none ∷ [])) D k ≡ snapIn xs D k
-unfolding snapIn signed level
+unfolding snapIn level
 snap-rested [] n D k = either (ltb k n)
   where
     either : (t : Bool) → cond t (pos 0) (pos 0) ≡ pos 0
     either true = refl
     either false = refl
 snap-rested (segment m g ∷ xs) n D k =
-    ap (λ (y : ℤ). cond (ltb k m) (signed g D) y) (snap-rested xs n D (k - m))
+    ap (λ (y : ℤ). cond (ltb k m) (snapWith g D) y) (snap-rested xs n D (k - m))

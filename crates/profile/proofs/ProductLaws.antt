@@ -4,7 +4,7 @@ use mathlib.Core.List.{List, [], _∷_, _++_}
 use Prim.Native.Nat.{ℕ, _*_, _≤_}
 use native.Mathlib.Nat.{le-refl, le-trans, mul-one, mul-le-mul-left}
 use native.Mathlib.Omega.{arith}
-use Rattle.profile.specs.Widths.{span, product, Spread}
+use Rattle.profile.specs.Inner.Widths.{span, product, Spread}
 
 span-least : (a : ℕ) (ws : List ℕ) → a ≤ span a ws
 unfolding span

@@ -5,7 +5,7 @@ use Prim.Native.Nat.{ℕ, suc, _+_, _-_, _*_, _≤_}
 use native.Mathlib.Nat.{le-refl, le-trans, zero-sub, sub-le}
 use native.Mathlib.Omega.{arith}
 use native.Mathlib.Decide.{decLe, le-ind}
-use Rattle.profile.specs.Widths.{total, ramp, span, product}
+use Rattle.profile.specs.Inner.Widths.{total, ramp, span, product}
 use Rattle.profile.proofs.Totals.{total-rising, total-even, late-step}
 
 pub record Ramp (f : ℕ → ℕ) (top end : ℕ) : Type 0 where

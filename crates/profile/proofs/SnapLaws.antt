@@ -7,15 +7,15 @@ use native.Mathlib.Nat.{le-refl}
 use native.Mathlib.Omega.{arith}
 use lib.Dec.{ltb}
 use lib.IntN.{ℤ, pos, negℤ, negℤ-negℤ, natAbs}
-use Rattle.profile.specs.Segments.{level, Sign, positive, none, negative, Segment, segment, signed, snapIn}
-use Rattle.profile.specs.Widths.{opposite, withOppositeSigns}
+use Rattle.profile.specs.Profile.{level, Sign, positive, none, negative, Segment, segment, snapIn}
+use Rattle.profile.specs.Inner.Widths.{snapWith, opposite, withOppositeSigns}
 
-signed-size : (g : Sign) (D : ℕ) → natAbs (signed g D) ≤ D
-unfolding signed level
-signed-size positive D = le-refl D
-signed-size none D = omega arith
-signed-size negative zero = omega arith
-signed-size negative (suc D) = le-refl (suc D)
+level-size : (g : Sign) (D : ℕ) → natAbs (snapWith g D) ≤ D
+unfolding level
+level-size positive D = le-refl D
+level-size none D = omega arith
+level-size negative zero = omega arith
+level-size negative (suc D) = le-refl (suc D)
 
 either-size : (t : Bool) (x y : ℤ) (D : ℕ) → natAbs x ≤ D → natAbs y ≤ D → natAbs (cond t x y) ≤ D
 either-size true x y D p q = p
@@ -25,13 +25,13 @@ pub snap-size : (xs : List Segment) (D k : ℕ) → natAbs (snapIn xs D k) ≤ D
 unfolding snapIn
 snap-size [] D k = omega arith
 snap-size (segment n g ∷ xs) D k =
-    either-size (ltb k n) (signed g D) (snapIn xs D (k - n)) D (signed-size g D) (snap-size xs D (k - n))
+    either-size (ltb k n) (snapWith g D) (snapIn xs D (k - n)) D (level-size g D) (snap-size xs D (k - n))
 
-signed-opposite : (g : Sign) (D : ℕ) → signed (opposite g) D ≡ negℤ (signed g D)
-unfolding signed opposite level
-signed-opposite positive D = refl
-signed-opposite none D = refl
-signed-opposite negative D = sym (negℤ-negℤ (pos D))
+level-opposite : (g : Sign) (D : ℕ) → snapWith (opposite g) D ≡ negℤ (snapWith g D)
+unfolding opposite level
+level-opposite positive D = refl
+level-opposite none D = refl
+level-opposite negative D = sym (negℤ-negℤ (pos D))
 
 pub either-negated : (t : Bool) (x y : ℤ) → cond t (negℤ x) (negℤ y) ≡ negℤ (cond t x y)
 either-negated true x y = refl
@@ -41,4 +41,4 @@ pub snap-opposite : (xs : List Segment) (D k : ℕ) → snapIn (withOppositeSign
 unfolding snapIn withOppositeSigns
 snap-opposite [] D k = refl
 snap-opposite (segment n g ∷ xs) D k =
-    ap₂ (cond (ltb k n)) (signed-opposite g D) (snap-opposite xs D (k - n)) ∙ either-negated (ltb k n) (signed g D) (snapIn xs D (k - n))
+    ap₂ (cond (ltb k n)) (level-opposite g D) (snap-opposite xs D (k - n)) ∙ either-negated (ltb k n) (snapWith g D) (snapIn xs D (k - n))

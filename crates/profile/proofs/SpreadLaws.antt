@@ -3,7 +3,7 @@ use mathlib.Core.Path.{_≡_, refl, sym, ap}
 use mathlib.Core.List.{List, [], _∷_, _++_}
 use Prim.Native.Nat.{ℕ, _+_}
 use native.Mathlib.Nat.{le-of-eq, le-trans}
-use Rattle.profile.specs.Widths.{span, Spread}
+use Rattle.profile.specs.Inner.Widths.{span, Spread}
 
 pub span-append : (a : ℕ) (outer inner : List ℕ) → span a (outer ++ inner) ≡ span (span a inner) outer
 unfolding span

@@ -8,7 +8,8 @@ use native.Mathlib.Decide.{decLe}
 use lib.Dec.{ltb}
 use lib.IntN.{ℤ, pos, negℤ, negℤ-+ℤ, _+ℤ_, +ℤ-assoc, +ℤ-idr}
 use borrow.Author.Tests.{lt-ltb, le-ltb}
-use Rattle.profile.specs.Sums.{sum, sums}
+use Rattle.profile.specs.Profile.{sum}
+use Rattle.profile.specs.Inner.Repeated.{sums}
 
 pub sum-of-equal : (f g : ℕ → ℤ) → ((i : ℕ) → f i ≡ g i) → (k : ℕ) → sum f k ≡ sum g k
 sum-of-equal f g e k = ap (λ (h : ℕ → ℤ). sum h k) (fun-ext e)

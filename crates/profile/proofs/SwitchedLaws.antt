@@ -8,8 +8,8 @@ use native.Mathlib.Decide.{decLe}
 use lib.Dec.{ltb}
 use lib.IntN.{ℤ, pos, negℤ, negℤ-negℤ}
 use borrow.Author.Tests.{ltb-true, ltb-false}
-use Rattle.profile.specs.Segments.{level, none, Segment, segment, signed, snapIn}
-use Rattle.profile.specs.Widths.{span, Spread, withOppositeSigns, switched, snapBy}
+use Rattle.profile.specs.Profile.{level, none, Segment, segment, snapIn}
+use Rattle.profile.specs.Inner.Widths.{span, Spread, withOppositeSigns, switched, snapBy}
 use Rattle.profile.proofs.SnapLaws.{snap-opposite, either-negated}
 use Rattle.profile.proofs.Lookup.{samples, samples-append, samples-opposite, snap-first, snap-next, snap-in-front, snap-behind, snap-ends}
 
@@ -40,7 +40,7 @@ module _ (a w : ℕ) (ws : List ℕ) (s : Spread a (w ∷ ws)) (D k : ℕ) where
   fits = (samples-switched a ws (s .1), s .0)
 
   early : k < w → Dec (samples inner ≤ k) → snapIn (switched a (w ∷ ws)) D k ≡ snapIn inner D k
-  unfolding switched signed level
+  unfolding switched level
   early h (yes l) =
       snap-behind inner behind D k l
       ∙ snap-first (w - span a ws) none (withOppositeSigns inner) D (k - samples inner) (omega (arith, fits))
@@ -73,7 +73,7 @@ snap-by-negated a (w ∷ ws) u v k =
     ∙ either-negated (ltb k w) (snapBy a ws u v k) (snapBy a ws v u (k - w))
 
 pub snap-by-widths : (a : ℕ) (ws : List ℕ) → Spread a ws → (D k : ℕ) → snapIn (switched a ws) D k ≡ snapBy a ws (pos D) (negℤ (pos D)) k
-unfolding snapIn switched snapBy Spread signed level
+unfolding snapIn switched snapBy Spread level
 snap-by-widths a [] s D k = refl
 snap-by-widths a (w ∷ ws) s D k =
     snap-switched a w ws s D k

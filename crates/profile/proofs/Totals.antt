@@ -4,7 +4,7 @@ use Prim.Native.Nat.{ℕ, zero, suc, _+_, _-_, _*_, _≤_}
 use native.Mathlib.Nat.{le-refl, zero-sub, add-suc, add-zero, mul-suc, mul-zero}
 use native.Mathlib.Omega.{arith}
 use native.Mathlib.Decide.{decLe, le-ind}
-use Rattle.profile.specs.Widths.{total}
+use Rattle.profile.specs.Inner.Widths.{total}
 
 pub total-of-none : (k : ℕ) → total (λ _. 0) k ≡ 0
 unfolding total

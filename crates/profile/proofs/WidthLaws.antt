@@ -7,9 +7,9 @@ use native.Mathlib.Omega.{arith}
 use lib.IntN.{pos, natAbs}
 use lib.Signed.{_≤ℤ_}
 use lib.ListN.{length}
-use Rattle.profile.specs.Segments.{snapIn}
-use Rattle.profile.specs.Sums.{sums}
-use Rattle.profile.specs.Widths.{span, product, Spread, switched, ramp}
+use Rattle.profile.specs.Profile.{snapIn}
+use Rattle.profile.specs.Inner.Repeated.{sums}
+use Rattle.profile.specs.Inner.Widths.{span, product, Spread, switched, ramp}
 use Rattle.profile.proofs.Differences.{size, level, value, forward}
 use Rattle.profile.proofs.RampLaws.{ramp-is, ramp-rising}
 use Rattle.profile.proofs.Delays.{delays}

@@ -1,6 +1,3 @@
--- Document 01, "The profile"; then the same profile over any list of interval widths, which the laws speak of.
-pub mod Segments
-pub mod Sums
+-- Document 01, "The profile"; last what only proofs cite: the same profile over any list of interval widths.
 pub mod Profile
-pub mod Widths
-pub mod Facts
+pub mod Inner

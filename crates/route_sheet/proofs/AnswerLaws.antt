@@ -1,42 +1,40 @@
--- The promise leaves the reader one answer: different readings are held differently.
+-- The promise leaves the reader one answer: different readings have different contents.
 use mathlib.Core.List.{List}
-use mathlib.Core.Path.{_≡_, refl, sym, ap, _∙_}
+use mathlib.Core.Path.{_≡_, refl, sym, ap, ap₂, _∙_}
 use Prim.Native.Nat.{ℕ}
-use Rattle.planner.proofs.Clash.{clash}
-use Rattle.route_sheet.specs.Answer.{Held, Counts, refusal, result, held, ReadsSheet}
-use Rattle.route_sheet.specs.declared.SheetRefusal.{SheetRefusal}
-use Rattle.route_sheet.specs.declared.SheetRefusal.the-variants.{Malformed, TooLong}
+use native.Mathlib.Omega.{arith}
+use Rattle.planner.proofs.ResultLaws.{refused-or-given, same-refused, same-given}
+use Rattle.route_sheet.specs.Answer.{numberAndLine, sheetOutcome, Contents, contents, ReadsSheet}
 use Rattle.route_sheet.specs.declared.SheetAnswer.{SheetAnswer}
 use Rattle.route_sheet.specs.declared.SheetAnswer.the-variants.{Listed, Refused}
 use Rattle.route_sheet.specs.declared.SheetReading.{SheetReading}
+use Rattle.route_sheet.specs.declared.SheetRefusal.{SheetRefusal}
+use Rattle.route_sheet.specs.declared.SheetRefusal.the-variants.{Malformed, TooLong}
 
-refusal-injective : (x y : SheetRefusal) → refusal {A = Counts} x ≡ refusal y → x ≡ y
-refusal-injective (Malformed k) (Malformed l) e = let same : k ≡ l = cc in ap Malformed same
-refusal-injective (Malformed k) TooLong e = absurd (clash (cc))
-refusal-injective TooLong (Malformed l) e = absurd (clash (cc))
+abbrev first : ℕ × ℕ → ℕ
+first x = x .0
+
+abbrev second : ℕ × ℕ → ℕ
+second x = x .1
+
+refusal-injective : (x y : SheetRefusal) → numberAndLine x ≡ numberAndLine y → x ≡ y
+refusal-injective (Malformed k) (Malformed l) e = ap Malformed (ap second e)
+refusal-injective (Malformed k) TooLong e = absurd (omega (arith, ap first e))
+refusal-injective TooLong (Malformed l) e = absurd (omega (arith, ap first e))
 refusal-injective TooLong TooLong e = refl
 
--- A refusal is no listing.
-apart : (m n : ℕ) (x : SheetRefusal) → result (Listed m n) ≡ result (Refused x) → ⊥
-apart m n (Malformed k) e = clash (cc)
-apart m n TooLong e = clash (cc)
+outcome-injective : (x y : SheetAnswer) → sheetOutcome x ≡ sheetOutcome y → x ≡ y
+outcome-injective (Listed m n) (Listed k l) e = let counts = same-given e in ap₂ Listed (ap first counts) (ap second counts)
+outcome-injective (Listed m n) (Refused y) e = absurd (refused-or-given (numberAndLine y) (m, n) (sym e))
+outcome-injective (Refused x) (Listed k l) e = absurd (refused-or-given (numberAndLine x) (k, l) e)
+outcome-injective (Refused x) (Refused y) e = ap Refused (refusal-injective x y (same-refused e))
 
-result-injective : (x y : SheetAnswer) → result x ≡ result y → x ≡ y
-result-injective (Listed m n) (Listed k l) e =
-    let counts : _≡_ {A = Counts} (record { sets = m; moves = n }) (record { sets = k; moves = l }) = cc in
-    let sets : m ≡ k = ap (λ (c : Counts). c .sets) counts in
-    let moves : n ≡ l = ap (λ (c : Counts). c .moves) counts in
-    rw (sets, moves)
-result-injective (Listed m n) (Refused y) e = absurd (apart m n y e)
-result-injective (Refused x) (Listed k l) e = absurd (apart k l x (sym e))
-result-injective (Refused x) (Refused y) e = ap Refused (refusal-injective x y e)
-
-held-injective : (x y : SheetReading) → held x ≡ held y → x ≡ y
-held-injective x y e =
-    let answer : x .answer ≡ y .answer = result-injective (x .answer) (y .answer) (ap (λ (h : Held). h .result) e) in
-    let sets = ap (λ (h : Held). h .sets) e in
-    let moves = ap (λ (h : Held). h .moves) e in
+contents-injective : (x y : SheetReading) → contents x ≡ contents y → x ≡ y
+contents-injective x y e =
+    let answer = outcome-injective (x .answer) (y .answer) (ap (λ (c : Contents). c .answer) e) in
+    let sets = ap (λ (c : Contents). c .sets) e in
+    let moves = ap (λ (c : Contents). c .moves) e in
     λ i. record { answer = answer i; sets = sets i; moves = moves i }
 
-pub one-reading : (text : List ℕ) (x y : SheetReading) → ReadsSheet text (held x) → ReadsSheet text (held y) → x ≡ y
-one-reading text x y p q = held-injective x y (p .held-is ∙ sym (q .held-is))
+pub one-reading : {text : List ℕ} {x y : SheetReading} → ReadsSheet text x → ReadsSheet text y → x ≡ y
+one-reading {x = x} {y = y} p q = contents-injective x y (p .contents-are ∙ sym (q .contents-are))

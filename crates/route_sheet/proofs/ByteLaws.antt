@@ -1,11 +1,11 @@
--- The byte at which reading a number stands: what each test of it means.
+-- The tests of a byte of a number: what each means.
 use mathlib.Core.Bool.{Bool, true, false, _&&_, true≢false}
 use mathlib.Core.List.{List, _∷_}
 use mathlib.Core.Path.{_≡_, refl, ap, _∙_, sym}
 use Prim.Native.Nat.{ℕ, _≤_}
 use borrow.Author.Tests.{eq-eqb, ne-eqb, leb-true, le-leb}
 use lib.Dec.{leb}
-use Rattle.route_sheet.specs.Reading.{got, stuck, isDigit, digitValue, withDigit, readDigits, readNumber}
+use Rattle.route_sheet.specs.Reading.{parsed, failed, isDigit, digitValue, withDigit, readDigits, readNumber}
 
 and-parts : (t u : Bool) → t && u ≡ true → (t ≡ true) × (u ≡ true)
 and-parts true u e = (refl, e)
@@ -36,14 +36,14 @@ module _ (b p q r s : ℕ) where
       let (low, high) = and-parts (leb p q) (leb r s) k in
       record { from = leb-true 48 b from; to = leb-true b 57 to; low = leb-true p q low; high = leb-true r s high }
 
-  passed : Passes b p q r s → test ≡ true
-  passed h = rw (le-leb 48 b (h .from), le-leb b 57 (h .to), le-leb p q (h .low), le-leb r s (h .high))
+  test-true : Passes b p q r s → test ≡ true
+  test-true h = rw (le-leb 48 b (h .from), le-leb b 57 (h .to), le-leb p q (h .low), le-leb r s (h .high))
 
-  pub failed : (Passes b p q r s → ⊥) → test ≡ false
-  failed h = not-true-false test (λ e. h (passes e))
+  pub test-false : (Passes b p q r s → ⊥) → test ≡ false
+  test-false h = not-true-false test (λ e. h (passes e))
 
-  pub not-passed : test ≡ false → Passes b p q r s → ⊥
-  not-passed e h = true≢false (sym (passed h) ∙ e)
+  pub not-passes : test ≡ false → Passes b p q r s → ⊥
+  not-passes e h = true≢false (sym (test-true h) ∙ e)
 
   pub no-digit : isDigit b ≡ false → Passes b p q r s → ⊥
   no-digit e h = true≢false (sym (rw (le-leb 48 b (h .from), le-leb b 57 (h .to))) ∙ e)
@@ -53,7 +53,7 @@ module _ (b p q r s : ℕ) where
     where
       go : (t : Bool) → test ≡ t → Dec (Passes b p q r s)
       go true e = yes (passes e)
-      go false e = no (not-passed e)
+      go false e = no (not-passes e)
 
 -- The byte that ends a number is none of its digits.
 pub not-end : (b end : ℕ) → isDigit end ≡ false → 48 ≤ b → b ≤ 57 → b ≡ end → ⊥
@@ -64,23 +64,23 @@ module _ (least most end b : ℕ) (s : List ℕ) where
   pub number-start :
       Passes b least (digitValue b) (digitValue b) most → readNumber least most end (b ∷ s) ≡ readDigits most end (digitValue b) s
   unfolding readNumber
-  number-start h = rw (passed b least (digitValue b) (digitValue b) most h)
+  number-start h = rw (test-true b least (digitValue b) (digitValue b) most h)
 
-  pub number-stop : (Passes b least (digitValue b) (digitValue b) most → ⊥) → readNumber least most end (b ∷ s) ≡ stuck 0
+  pub number-stop : (Passes b least (digitValue b) (digitValue b) most → ⊥) → readNumber least most end (b ∷ s) ≡ failed 0
   unfolding readNumber
-  number-stop h = rw (failed b least (digitValue b) (digitValue b) most h)
+  number-stop h = rw (test-false b least (digitValue b) (digitValue b) most h)
 
 -- A byte after the number n.
 module _ (most end n b : ℕ) (s : List ℕ) where
-  pub digits-end : b ≡ end → readDigits most end n (b ∷ s) ≡ got n s
+  pub digits-end : b ≡ end → readDigits most end n (b ∷ s) ≡ parsed n s
   unfolding readDigits
   digits-end e = rw (eq-eqb b end e)
 
   pub digits-next :
       (b ≡ end → ⊥) → Passes b 1 n (withDigit n b) most → readDigits most end n (b ∷ s) ≡ readDigits most end (withDigit n b) s
   unfolding readDigits
-  digits-next e h = rw (ne-eqb b end e, passed b 1 n (withDigit n b) most h)
+  digits-next e h = rw (ne-eqb b end e, test-true b 1 n (withDigit n b) most h)
 
-  pub digits-stop : (b ≡ end → ⊥) → (Passes b 1 n (withDigit n b) most → ⊥) → readDigits most end n (b ∷ s) ≡ stuck 0
+  pub digits-stop : (b ≡ end → ⊥) → (Passes b 1 n (withDigit n b) most → ⊥) → readDigits most end n (b ∷ s) ≡ failed 0
   unfolding readDigits
-  digits-stop e h = rw (ne-eqb b end e, failed b 1 n (withDigit n b) most h)
+  digits-stop e h = rw (ne-eqb b end e, test-false b 1 n (withDigit n b) most h)

@@ -10,8 +10,8 @@ use borrow.Author.Tests.{ltb-true, ltb-false, lt-ltb, le-ltb}
 use lib.Dec.{ltb, lit<}
 use lib.IntN.{ℤ, pos, negsuc, natAbs}
 use lib.ListN.{length, length-append}
-use Rattle.route_sheet.specs.Decimal.{digit, digitsUpTo, decimal, signedDecimal}
-use Rattle.route_sheet.specs.ReadingClaims.{DecimalClaim}
+use Rattle.route_sheet.specs.Text.{digit, digitsUpTo, decimal, signedDecimal}
+use Rattle.route_sheet.specs.Claims.{DecimalClaim}
 
 -- One step of `digitsUpTo`, with the test's value.
 step : (most n : ℕ) → Bool → List ℕ

@@ -6,16 +6,14 @@ use Prim.Native.Nat.{ℕ, zero, suc, _%_, _≤_}
 use native.Mathlib.Omega.{arith}
 use borrow.Author.Tests.{ne-eqb}
 use lib.IntN.{ℤ, pos, negsuc, negℤ, natAbs}
-use Rattle.route_sheet.specs.Text.{space, minus, lineEnds}
-use Rattle.route_sheet.specs.Decimal.{digit, decimal, signedDecimal}
-use Rattle.route_sheet.specs.Sheet.{Within, mostDisplacement}
-use Rattle.route_sheet.specs.SheetText.{ended}
-use Rattle.route_sheet.specs.Reading.{got, thenRead, readNumber, readDisplacement}
+use Rattle.route_sheet.specs.Text.{space, minus, lineEnds, digit, decimal, signedDecimal}
+use Rattle.route_sheet.specs.Sheet.{Within, mostDisplacement, ended}
+use Rattle.route_sheet.specs.Reading.{parsed, thenRead, readNumber, readDisplacement}
 use Rattle.route_sheet.proofs.DecimalLaws.{decimal-digit, decimal-more, by-digits}
 use Rattle.route_sheet.proofs.TextLaws.{lineEnds-append}
 use Rattle.route_sheet.proofs.FormatLaws.{Format}
 use Rattle.route_sheet.proofs.MappedFormats.{mapped}
-use Rattle.route_sheet.proofs.ChoiceLaws.{Unmarked, Sides, choice}
+use Rattle.route_sheet.proofs.ChoiceLaws.{Unmarked, TwoForms, choice}
 use Rattle.route_sheet.proofs.NumberLaws.{decimal-lines, number-format}
 
 -- The text of X, and of its size.
@@ -37,7 +35,7 @@ abbrev Natural : ℤ → Type 0
 Natural (pos n) = n ≤ mostDisplacement
 Natural (negsuc n) = ⊥
 
-negative-format : Format sizeText Negative (λ t. thenRead 0 (readNumber 1 mostDisplacement space t) λ n rest. got (negℤ (pos n)) rest)
+negative-format : Format sizeText Negative (λ t. thenRead 0 (readNumber 1 mostDisplacement space t) λ n rest. parsed (negℤ (pos n)) rest)
 negative-format =
     mapped 0 (number-format 1 mostDisplacement space (omega arith) refl (omega arith))
     (record { made-ok = made-ok; made-text = made-text; part = λ x h. natAbs x; part-ok = part-ok; part-makes = part-makes })
@@ -58,7 +56,7 @@ negative-format =
     part-makes (pos n) h = absurd h
     part-makes (negsuc n) h = refl
 
-natural-format : Format displacementText Natural (λ t. thenRead 0 (readNumber 0 mostDisplacement space t) λ n rest. got (pos n) rest)
+natural-format : Format displacementText Natural (λ t. thenRead 0 (readNumber 0 mostDisplacement space t) λ n rest. parsed (pos n) rest)
 unfolding signedDecimal
 natural-format =
     mapped 0 (number-format 0 mostDisplacement space (omega arith) refl (omega arith))
@@ -76,25 +74,25 @@ natural-format =
 unmarked-more : {s : List ℕ} (t : List ℕ) → Unmarked minus s → Unmarked minus (s ++ t)
 unmarked-more t u = record { byte = u .byte; rest = u .rest ++ t; text-is = rw (u .text-is); other = u .other }
 
-no-minus : (n : ℕ) → Unmarked minus (decimal n)
-no-minus =
+decimal-unmarked : (n : ℕ) → Unmarked minus (decimal n)
+decimal-unmarked =
     by-digits (λ n. Unmarked minus (decimal n))
     (λ n h. record { byte = digit n; rest = []; text-is = decimal-digit n h; other = λ e. omega arith })
     (λ n h ih. rw (decimal-more n h) (unmarked-more (digit (n % 10) ∷ []) ih))
 
 pub without-minus :
     (n : ℕ) (s : List ℕ) →
-    readDisplacement (decimal n ++ s) ≡ thenRead 0 (readNumber 0 mostDisplacement space (decimal n ++ s)) λ m rest. got (pos m) rest
+    readDisplacement (decimal n ++ s) ≡ thenRead 0 (readNumber 0 mostDisplacement space (decimal n ++ s)) λ m rest. parsed (pos m) rest
 unfolding readDisplacement
-without-minus n s = let u = no-minus n in rw (u .text-is, ne-eqb (u .byte) minus (u .other))
+without-minus n s = let u = decimal-unmarked n in rw (u .text-is, ne-eqb (u .byte) minus (u .other))
 
-sides : Sides minus displacementText sizeText DisplacementAllowed Negative Natural
+two-forms : TwoForms minus displacementText sizeText DisplacementAllowed Negative Natural
 unfolding signedDecimal lineEnds
-sides = record { side = side; ok-one = ok-one; ok-two = ok-two; marked = marked; unmarked = unmarked; mark-lines = refl }
+two-forms = record { which = which; ok-one = ok-one; ok-two = ok-two; marked = marked; unmarked = unmarked; mark-lines = refl }
   where
-    side : (x : ℤ) → DisplacementAllowed x → Negative x ⊎ Natural x
-    side (pos n) h = inr h
-    side (negsuc n) h = inl h
+    which : (x : ℤ) → DisplacementAllowed x → Negative x ⊎ Natural x
+    which (pos n) h = inr h
+    which (negsuc n) h = inl h
 
     ok-one : (x : ℤ) → Negative x → DisplacementAllowed x
     ok-one (pos n) h = absurd h
@@ -109,12 +107,12 @@ sides = record { side = side; ok-one = ok-one; ok-two = ok-two; marked = marked;
     marked (negsuc n) h = refl
 
     unmarked : (x : ℤ) → Natural x → Unmarked minus (displacementText x)
-    unmarked (pos n) h = unmarked-more (space ∷ []) (no-minus n)
+    unmarked (pos n) h = unmarked-more (space ∷ []) (decimal-unmarked n)
     unmarked (negsuc n) h = absurd h
 
 pub displacement-format : Format displacementText DisplacementAllowed readDisplacement
 unfolding readDisplacement
-displacement-format = choice negative-format natural-format sides (record { at-end = refl; at-byte = λ b s. refl })
+displacement-format = choice negative-format natural-format two-forms (record { at-end = refl; at-byte = λ b s. refl })
 
 -- X stands in one line.
 pub signed-lines : (x : ℤ) → lineEnds (signedDecimal x) ≡ 0

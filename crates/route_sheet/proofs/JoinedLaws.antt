@@ -5,8 +5,8 @@ use Prim.Native.Nat.{ℕ, _*_, _≤_}
 use native.Mathlib.Omega.{arith}
 use lib.ListN.{length, length-append}
 use Rattle.route_sheet.specs.Text.{lineEnds}
-use Rattle.planner.specs.Lists.{Each}
-use Rattle.route_sheet.specs.SheetText.{joined}
+use Rattle.planner.specs.Result.{Each}
+use Rattle.route_sheet.specs.Sheet.{joined}
 use Rattle.route_sheet.proofs.TextLaws.{lineEnds-append}
 
 module _ {A : Type 0} (text : A → List ℕ) where

@@ -3,9 +3,8 @@ use Prim.Native.Nat.{ℕ, _≤_}
 use native.Mathlib.Omega.{arith}
 use lib.IntN.{natAbs}
 use lib.ListN.{length, length-append}
-use Rattle.route_sheet.specs.Decimal.{decimal}
-use Rattle.route_sheet.specs.Sheet.{Sheet, Within, mostSets, mostNumber, SetAllowed, MoveAllowed, SheetAllowed}
-use Rattle.route_sheet.specs.SheetText.{setLine, moveLine, sheetText}
+use Rattle.route_sheet.specs.Text.{decimal}
+use Rattle.route_sheet.specs.Sheet.{Sheet, Within, mostSets, mostNumber, SetAllowed, MoveAllowed, SheetAllowed, setLine, moveLine, sheetText}
 use Rattle.route_sheet.specs.declared.BoundSet.{BoundSet}
 use Rattle.route_sheet.specs.declared.RouteMove.{RouteMove}
 use Rattle.route_sheet.proofs.DecimalLaws.{decimal-length, signed-length}
@@ -43,10 +42,10 @@ sheet-length x h =
     simp length-append
     (omega (
       arith,
-      h .set-count,
-      h .move-count,
-      decimal-length 1 (length (x .sets)) (omega (arith, h .set-count)),
-      decimal-length 2 (length (x .moves)) (omega (arith, h .move-count)),
-      joined-length setLine 80 set-length (x .sets) (h .each-set),
-      joined-length moveLine 24 (move-length (length (x .sets)) (h .set-count .to)) (x .moves) (h .each-move),
+      h .first .count,
+      h .second .count,
+      decimal-length 1 (length (x .sets)) (omega (arith, h .first .count)),
+      decimal-length 2 (length (x .moves)) (omega (arith, h .second .count)),
+      joined-length setLine 80 set-length (x .sets) (h .first .each),
+      joined-length moveLine 24 (move-length (length (x .sets)) (h .first .count .to)) (x .moves) (h .second .each),
     ))

@@ -22,8 +22,9 @@ pub mod StopLaws
 pub mod ComesToLaws
 pub mod ReadingTheorems
 -- A number outside its span is charged to its own line.
-pub mod StuckLaws
 pub mod OwnLine
+pub mod FailureLaws
+pub mod OutsideSpan
 -- One answer, and the promises by the meaning of the rules.
 pub mod AnswerLaws
 pub mod EntryTheorems
@@ -39,5 +40,5 @@ pub mod LineTextLaws
 pub mod ReportBounds
 pub mod PlanLineLaws
 pub mod RouteRuns
-pub mod HeldLaws
+pub mod ContentsLaws
 pub mod ReportLaws

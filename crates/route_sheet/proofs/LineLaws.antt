@@ -4,10 +4,8 @@ use mathlib.Core.Path.{_≡_, refl}
 use Prim.Native.Nat.{ℕ, _≤_}
 use native.Mathlib.Omega.{arith}
 use lib.IntN.{ℤ}
-use Rattle.route_sheet.specs.Text.{space, lineEnd, lineEnds}
-use Rattle.route_sheet.specs.Decimal.{decimal}
-use Rattle.route_sheet.specs.Sheet.{Within, mostNumber, SetAllowed, MoveAllowed}
-use Rattle.route_sheet.specs.SheetText.{ended, countLine, setLine, moveLine}
+use Rattle.route_sheet.specs.Text.{space, lineEnd, lineEnds, decimal}
+use Rattle.route_sheet.specs.Sheet.{Within, mostNumber, SetAllowed, MoveAllowed, ended, countLine, setLine, moveLine}
 use Rattle.route_sheet.specs.Reading.{isDigit, readNumber, readSet, readMove}
 use Rattle.route_sheet.specs.declared.BoundSet.{BoundSet}
 use Rattle.route_sheet.specs.declared.RouteMove.{RouteMove}
@@ -34,13 +32,13 @@ pub count-lines : (n : ℕ) → lineEnds (countLine n) ≡ 1
 unfolding lineEnds
 count-lines n = simp (lineEnds-append, decimal-lines)
 
--- The snap makes the set whole.
+-- The snap completes the set.
 module _ (v a j : ℕ) (v-ok : Within 0 mostNumber v) (a-ok : Within 0 mostNumber a) (j-ok : Within 0 mostNumber j) where
-  whole-set :
+  completes-set :
       Makes (λ n. ended lineEnd (decimal n)) (Within 0 mostNumber) (λ x. ended lineEnd (decimal (x .snap)))
       (With (With (With SetAllowed (λ x. x .velocity) v) (λ x. x .acceleration) a) (λ x. x .jerk) j)
       (λ s. record { velocity = v; acceleration = a; jerk = j; snap = s })
-  whole-set =
+  completes-set =
       record {
         made-ok = λ s s-ok. with-own (with-own (with-own (record { velocity = v-ok; acceleration = a-ok; jerk = j-ok; snap = s-ok })));
         made-text = λ s h. refl;
@@ -55,18 +53,18 @@ set-format =
     sequence 0 (λ x. x .velocity) (bound-format space refl) (λ x h. h .velocity) (λ n h. bound-lines n)
     (λ v v-ok. sequence 0 (λ x. x .acceleration) (bound-format space refl) (λ x h. h .allowed .acceleration) (λ n h. bound-lines n)
     (λ a a-ok. sequence 0 (λ x. x .jerk) (bound-format space refl) (λ x h. h .allowed .allowed .jerk) (λ n h. bound-lines n)
-    (λ j j-ok. mapped 0 (bound-format lineEnd refl) (whole-set v a j v-ok a-ok j-ok))))
+    (λ j j-ok. mapped 0 (bound-format lineEnd refl) (completes-set v a j v-ok a-ok j-ok))))
 
 pub set-lines : (x : BoundSet) → lineEnds (setLine x) ≡ 1
 unfolding setLine lineEnds
 set-lines x = simp (lineEnds-append, decimal-lines)
 
--- The set number makes the move whole.
-whole-move :
+-- The set number completes the move.
+completes-move :
     (setCount : ℕ) (x : ℤ) → DisplacementAllowed x →
     Makes countLine (Within 1 setCount) (λ m. countLine (m .set))
     (With (MoveAllowed setCount) (λ m. m .displacement) x) (λ n. record { displacement = x; set = n })
-whole-move setCount x x-ok =
+completes-move setCount x x-ok =
     record {
       made-ok = λ n n-ok. with-own (record { displacement = x-ok; set = n-ok });
       made-text = λ n h. refl;
@@ -79,7 +77,7 @@ pub move-format : (setCount : ℕ) → 1 ≤ setCount → Format moveLine (MoveA
 unfolding moveLine readMove
 move-format setCount h =
     sequence 0 (λ m. m .displacement) displacement-format (λ m k. k .displacement) (λ x k. displacement-lines x)
-    (λ x x-ok. mapped 0 (count-format setCount h) (whole-move setCount x x-ok))
+    (λ x x-ok. mapped 0 (count-format setCount h) (completes-move setCount x x-ok))
 
 pub move-lines : (x : RouteMove) → lineEnds (moveLine x) ≡ 1
 unfolding moveLine lineEnds

@@ -6,12 +6,14 @@ use Prim.Native.Nat.{ℕ, zero, suc, _<_}
 use native.Mathlib.Omega.{arith}
 use lib.IntN.{ℤ, pos}
 use lib.Signed.{ltZ}
-use Rattle.planner.specs.Direction.{along}
+use Rattle.planner.specs.Quantities.{along}
+use Rattle.planner.specs.Result.{given}
+use Rattle.planner.specs.Outcome.{intervalsIn}
+use Rattle.planner.specs.declared.Plan.{Plan}
 use Rattle.planner.proofs.DirectionLaws.{along-negative, along-positive}
-use Rattle.planner.specs.Outcome.{planned}
-use Rattle.route_sheet.specs.Text.{minus}
-use Rattle.route_sheet.specs.Decimal.{decimal, signedDecimal}
-use Rattle.route_sheet.specs.Report.{field, endOfLine, moveReport}
+use Rattle.route_sheet.specs.Text.{lineEnd, minus, decimal, signedDecimal}
+use Rattle.route_sheet.specs.Sheet.{ended}
+use Rattle.route_sheet.specs.Report.{field, moveReport}
 use Rattle.route_sheet.specs.Inner.Lines.{durationsText, snapText}
 
 -- A size that is not 0, with the sign of X.
@@ -26,8 +28,8 @@ sign-positive X D h = rw (along-positive X (pos D) h)
 
 -- The line of a planned move, in the parts that are put.
 pub plan-text :
-    (number : ℕ) (X : ℤ) (a b c e D short : ℕ) →
-    moveReport number X (planned a b c e D short)
-    ≡ field "move " number ++ (durationsText a b c e ++ (snapText X D ++ (field " short " short ++ endOfLine)))
+    (number : ℕ) (X : ℤ) (x : Plan) →
+    moveReport number X (given x)
+    ≡ field "move " number ++ (durationsText (intervalsIn x) ++ (snapText X (x .snap) ++ ended lineEnd (field " short " (x .shortfall))))
 unfolding moveReport
-plan-text number X a b c e D short = simp append-assoc
+plan-text number X x = simp append-assoc

@@ -1,4 +1,4 @@
--- A number of a span, which the byte `end` ends: its format. And a number outside the span, whatever follows it, is never read.
+-- A number of a span, which the byte `end` ends: its format. And the parse of a number outside the span fails, whatever follows it.
 use mathlib.Core.Bool.{false}
 use mathlib.Core.List.{List, [], _∷_, _++_, append-nil, append-assoc}
 use mathlib.Core.Path.{_≡_, refl, _∙_}
@@ -6,14 +6,12 @@ use Prim.Native.Nat.{ℕ, _/_, _%_, _≤_, _<_}
 use native.Mathlib.Decide.{ℕ-discrete, decLe}
 use native.Mathlib.Omega.{arith}
 use borrow.Author.Tests.{ne-eqb}
-use Rattle.route_sheet.specs.Text.{lineEnd, lineEnds}
-use Rattle.route_sheet.specs.Decimal.{digit, decimal}
-use Rattle.route_sheet.specs.Sheet.{Within}
-use Rattle.route_sheet.specs.SheetText.{ended}
-use Rattle.route_sheet.specs.Reading.{Got, got, stuck, isDigit, digitValue, withDigit, readDigits, readNumber}
+use Rattle.route_sheet.specs.Text.{lineEnd, lineEnds, digit, decimal}
+use Rattle.route_sheet.specs.Sheet.{Within, ended}
+use Rattle.route_sheet.specs.Reading.{Parse, parsed, failed, isDigit, digitValue, withDigit, readDigits, readNumber}
 use Rattle.route_sheet.proofs.DecimalLaws.{decimal-digit, decimal-more, decimal-with, by-digits}
 use Rattle.route_sheet.proofs.TextLaws.{lineEnds-append}
-use Rattle.route_sheet.proofs.FormatLaws.{Begins, Halt, ReadingTells, Format, not-both, begins-none, halt-at-end}
+use Rattle.route_sheet.proofs.FormatLaws.{Begins, Failure, ParseSound, Format, not-both, begins-none, failure-at-end}
 use Rattle.route_sheet.proofs.ByteLaws.{Passes, decide, not-end, number-start, number-stop, digits-end, digits-next, digits-stop}
 
 -- A decimal is in one line.
@@ -34,25 +32,25 @@ module _ (least most end : ℕ) (low : least ≤ 1) (plain : isDigit end ≡ fal
   abbrev text : ℕ → List ℕ
   text n = ended end (decimal n)
 
-  abbrev read : List ℕ → Got ℕ
+  abbrev read : List ℕ → Parse ℕ
   read = readNumber least most end
 
   abbrev ok : ℕ → Type 0
   ok = Within least most
 
-  -- Once its digits are read, the number stands there.
-  abbrev Stands : ℕ → Type 0
-  Stands n = ok n → (s : List ℕ) → read (decimal n ++ s) ≡ readDigits most end n s
+  -- Reading on, once the digits of a number are read.
+  abbrev AfterDigits : ℕ → Type 0
+  AfterDigits n = ok n → (s : List ℕ) → read (decimal n ++ s) ≡ readDigits most end n s
 
-  stands : (n : ℕ) → Stands n
-  stands = by-digits Stands one more
+  after-digits : (n : ℕ) → AfterDigits n
+  after-digits = by-digits AfterDigits one more
     where
-      one : (n : ℕ) → n < 10 → Stands n
+      one : (n : ℕ) → n < 10 → AfterDigits n
       one n l h s =
           let value : digitValue (digit n) ≡ n = omega arith in
           rw (decimal-digit n l, number-start least most end (digit n) s (omega arith), value)
 
-      more : (n : ℕ) → 10 ≤ n → Stands (n / 10) → Stands n
+      more : (n : ℕ) → 10 ≤ n → AfterDigits (n / 10) → AfterDigits n
       more n l ih h s =
           let d = digit (n % 10) in
           let value : withDigit (n / 10) d ≡ n = omega arith in
@@ -63,8 +61,8 @@ module _ (least most end : ℕ) (low : least ≤ 1) (plain : isDigit end ≡ fal
             value,
           )
 
-  back : (n : ℕ) → ok n → (rest : List ℕ) → read (text n ++ rest) ≡ got n rest
-  back n h rest = rw (append-assoc, stands n h (end ∷ rest)) (digits-end most end n end rest refl)
+  reads-back : (n : ℕ) → ok n → (rest : List ℕ) → read (text n ++ rest) ≡ parsed n rest
+  reads-back n h rest = rw (append-assoc, after-digits n h (end ∷ rest)) (digits-end most end n end rest refl)
 
   begins-number : (n : ℕ) → ok n → Begins text ok (decimal n)
   begins-number n h = record { value = n; allowed = h; rest = end ∷ []; whole = refl }
@@ -74,27 +72,30 @@ module _ (least most end : ℕ) (low : least ≤ 1) (plain : isDigit end ≡ fal
 
   -- Reading stops after p where no number goes on with the byte b.
   stopped :
-      (p : List ℕ) (b : ℕ) (s : List ℕ) → Begins text ok p → lineEnds p ≡ 0 → ((r : List ℕ) → read (p ++ (b ∷ r)) ≡ stuck 0) →
-      Halt text ok (p ++ (b ∷ s)) 0
+      (p : List ℕ) (b : ℕ) (s : List ℕ) → Begins text ok p → lineEnds p ≡ 0 → ((r : List ℕ) → read (p ++ (b ∷ r)) ≡ failed 0) →
+      Failure text ok (p ++ (b ∷ s)) 0
   stopped p b s begins lines stops =
       record {
         beginning = p;
         rest = b ∷ s;
         splits = refl;
         begins = begins;
-        blocked = λ b′ more at n h r w. let same : b′ ≡ b = cc in not-both {k = 0} (back n h []) (rw (append-nil, w, same) (stops r));
+        none-goes-on =
+            λ b′ more at n h r w.
+            let same : b′ ≡ b = cc in
+            not-both {k = 0} (reads-back n h []) (rw (append-nil, w, same) (stops r));
         lines-are = lines;
       }
 
-  digits-tell : (s : List ℕ) (m : ℕ) → ok m → ReadingTells text ok (decimal m ++ s) (readDigits most end m s)
+  digits-sound : (s : List ℕ) (m : ℕ) → ok m → ParseSound text ok (decimal m ++ s) (readDigits most end m s)
   unfolding readDigits
-  digits-tell [] m h = rw append-nil (halt-at-end (begins-number m h) (decimal-lines m))
-  digits-tell (b ∷ s) m h = go (ℕ-discrete b end) (decide b 1 m (withDigit m b) most) (digits-tell s (withDigit m b))
+  digits-sound [] m h = rw append-nil (failure-at-end (begins-number m h) (decimal-lines m))
+  digits-sound (b ∷ s) m h = go (ℕ-discrete b end) (decide b 1 m (withDigit m b) most) (digits-sound s (withDigit m b))
     where
       go :
           Dec (b ≡ end) → Dec (Passes b 1 m (withDigit m b) most) →
-          (ok (withDigit m b) → ReadingTells text ok (decimal (withDigit m b) ++ s) (readDigits most end (withDigit m b) s)) →
-          ReadingTells text ok (decimal m ++ (b ∷ s)) (readDigits most end m (b ∷ s))
+          (ok (withDigit m b) → ParseSound text ok (decimal (withDigit m b) ++ s) (readDigits most end (withDigit m b) s)) →
+          ParseSound text ok (decimal m ++ (b ∷ s)) (readDigits most end m (b ∷ s))
       go (yes e) d ih = rw (digits-end most end m b s e) (record { allowed = h; text-is = rw (e, append-assoc) })
       go (no e) (yes d) ih =
           let b-is : digit (digitValue b) ≡ b = omega arith in
@@ -103,41 +104,41 @@ module _ (least most end : ℕ) (low : least ≤ 1) (plain : isDigit end ≡ fal
           rw (digits-next most end m b s e d) (rw (more, append-assoc) at (ih (omega arith)))
       go (no e) (no d) ih =
           rw (digits-stop most end m b s e d)
-          (stopped (decimal m) b s (begins-number m h) (decimal-lines m) (λ r. stands m h (b ∷ r) ∙ digits-stop most end m b r e d))
+          (stopped (decimal m) b s (begins-number m h) (decimal-lines m) (λ r. after-digits m h (b ∷ r) ∙ digits-stop most end m b r e d))
 
-  number-tells : 1 ≤ most → (t : List ℕ) → ReadingTells text ok t (read t)
+  number-sound : 1 ≤ most → (t : List ℕ) → ParseSound text ok t (read t)
   unfolding readNumber lineEnds
-  number-tells high [] = halt-at-end (begins-any high) refl
-  number-tells high (b ∷ s) = go (decide b least (digitValue b) (digitValue b) most)
+  number-sound high [] = failure-at-end (begins-any high) refl
+  number-sound high (b ∷ s) = go (decide b least (digitValue b) (digitValue b) most)
     where
-      go : Dec (Passes b least (digitValue b) (digitValue b) most) → ReadingTells text ok (b ∷ s) (read (b ∷ s))
+      go : Dec (Passes b least (digitValue b) (digitValue b) most) → ParseSound text ok (b ∷ s) (read (b ∷ s))
       go (yes d) =
           let b-is : digit (digitValue b) ≡ b = omega arith in
           let one : decimal (digitValue b) ≡ b ∷ [] = decimal-digit (digitValue b) (omega arith) ∙ rw b-is in
-          rw (number-start least most end b s d) (rw one at (digits-tell s (digitValue b) (omega arith)))
+          rw (number-start least most end b s d) (rw one at (digits-sound s (digitValue b) (omega arith)))
       go (no d) =
           rw (number-stop least most end b s d)
           (stopped [] b s (begins-any high) refl (λ r. number-stop least most end b r d))
 
   pub number-format : 1 ≤ most → Format (λ n. ended end (decimal n)) (Within least most) (readNumber least most end)
-  number-format high = record { back = back; tells = number-tells high }
+  number-format high = record { reads-back = reads-back; sound = number-sound high }
 
   -- A number outside its span.
-  abbrev Out : ℕ → Type 0
-  Out n = (ok n → ⊥) → (s : List ℕ) → read (decimal n ++ s) ≡ stuck 0
+  abbrev Outside : ℕ → Type 0
+  Outside n = (ok n → ⊥) → (s : List ℕ) → read (decimal n ++ s) ≡ failed 0
 
-  pub number-out : (n : ℕ) → (Within least most n → ⊥) → (s : List ℕ) → readNumber least most end (decimal n ++ s) ≡ stuck 0
-  number-out = by-digits Out one more
+  pub number-outside : (n : ℕ) → (Within least most n → ⊥) → (s : List ℕ) → readNumber least most end (decimal n ++ s) ≡ failed 0
+  number-outside = by-digits Outside one more
     where
-      one : (n : ℕ) → n < 10 → Out n
+      one : (n : ℕ) → n < 10 → Outside n
       one n l h s = rw (decimal-digit n l) (number-stop least most end (digit n) s (λ d. h (omega arith)))
 
-      more : (n : ℕ) → 10 ≤ n → Out (n / 10) → Out n
+      more : (n : ℕ) → 10 ≤ n → Outside (n / 10) → Outside n
       more n l ih h s = rw (last-digit n s l) (go (decLe (n / 10) most))
         where
-          go : Dec (n / 10 ≤ most) → read (decimal (n / 10) ++ (digit (n % 10) ∷ s)) ≡ stuck 0
+          go : Dec (n / 10 ≤ most) → read (decimal (n / 10) ++ (digit (n % 10) ∷ s)) ≡ failed 0
           go (yes k) =
               let d = digit (n % 10) in
-              stands (n / 10) (omega arith) (d ∷ s)
+              after-digits (n / 10) (omega arith) (d ∷ s)
               ∙ digits-stop most end (n / 10) d s (not-end d end plain (omega arith) (omega arith)) (λ p. h (omega arith))
           go (no k) = ih (λ w. k (w .to)) (digit (n % 10) ∷ s)

@@ -7,7 +7,7 @@ use native.Mathlib.Numerals.{add-one}
 use borrow.Author.Tests.{eq-eqb, ne-eqb}
 use lib.ListN.{length, drop, getD}
 use lib.Seq.{drop-cons}
-use Rattle.planner.specs.Direction.{signed}
+use Rattle.planner.specs.Quantities.{signed}
 use Rattle.route_sheet.specs.Text.{minus}
 use Rattle.route_sheet.specs.Reading.{readDisplacement}
 use Rattle.route_sheet.specs.Inner.Parts.{readSize}

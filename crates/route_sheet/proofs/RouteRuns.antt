@@ -7,10 +7,11 @@ use native.Mathlib.Numerals.{add-one}
 use native.Mathlib.Omega.{arith}
 use lib.ListN.{length, take, getD}
 use lib.Seq.{take-suc, length-take-le, getD-take}
-use Rattle.planner.specs.Lists.{Each}
+use Rattle.planner.specs.Result.{Each}
+use Rattle.planner.specs.Outcome.{outcomeOf}
 use Rattle.route_sheet.specs.Sheet.{Within, mostSets, mostMoves}
 use Rattle.route_sheet.specs.Answer.{zeroMove}
-use Rattle.route_sheet.specs.Report.{moveReport, setOf, outcomeIn, movesReport}
+use Rattle.route_sheet.specs.Report.{moveReport, moveOf, movesReport}
 use Rattle.route_sheet.specs.Inner.Output.{Puts}
 use Rattle.route_sheet.specs.Inner.Lines.{mostLine, LineRoom}
 use Rattle.route_sheet.specs.Inner.Route.{RouteListed}
@@ -24,16 +25,16 @@ each-at P [] i d e h = absurd (omega arith)
 each-at P (x ∷ xs) zero d e h = e .0
 each-at P (x ∷ xs) (suc i) d e h = each-at P xs i d (e .1) (omega arith)
 
-pub set-number :
+pub set-within :
     (moves : List RouteMove) (count i : ℕ) → RouteListed moves count → i < count → Within 1 mostSets (getD moves i zeroMove .set)
-set-number moves count i listed h =
+set-within moves count i listed h =
     let there : i < length (take count moves) = rw (length-take-le count moves (listed .count-places)) h in
     let named = each-at (λ m. Within 1 mostSets (m .set)) (take count moves) i zeroMove (listed .each) there in
     rw (getD-take count moves i zeroMove h) at named
 
 -- The line of one move more comes last.
 abbrev line : List BoundSet → (number : ℕ) → RouteMove → List ℕ
-line sets number m = moveReport number (m .displacement) (outcomeIn sets m)
+line sets number m = moveReport number (m .displacement) (outcomeOf (moveOf sets m))
 
 one-more :
     (sets : List BoundSet) (number : ℕ) (ms : List RouteMove) (m : RouteMove) →
@@ -61,14 +62,12 @@ module _ {old : List ℕ} {sets : List BoundSet} {moves : List RouteMove} {i at 
     pub next-line :
         (next : ℕ) (new : List ℕ) → i < length moves → i < mostMoves → Puts mid at (line sets (i + 1) (getD moves i zeroMove)) next new →
         LinesPut old sets moves (i + 1) next new
-    unfolding outcomeIn
+    unfolding moveOf
     next-line next new h few put =
         let m = getD moves i zeroMove in
-        let bounds = setOf sets (m .set) in
         let more : take (i + 1) moves ≡ take i moves ++ (m ∷ []) = rw add-one (take-suc moves i zeroMove h) in
         let number : 1 + length (take i moves) ≡ i + 1 = rw (length-take-le i moves (omega arith)) (omega arith) in
-        let size =
-        line-length (i + 1) (m .displacement) (bounds .velocity) (bounds .acceleration) (bounds .jerk) (bounds .snap) (omega arith) in
+        let size = line-length (i + 1) (moveOf sets m) (omega arith) in
         record {
           puts = rw (more, one-more sets 1 (take i moves) m, number) (put-more (so-far .puts) put);
           short = omega (arith, so-far .short, put .next-is, size);

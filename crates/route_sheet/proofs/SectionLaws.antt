@@ -5,9 +5,9 @@ use Prim.Native.Nat.{ℕ, zero, suc}
 use native.Mathlib.Omega.{arith}
 use lib.ListN.{length, getD, drop}
 use Rattle.route_sheet.specs.Text.{lineEnds}
-use Rattle.planner.specs.Lists.{Each}
-use Rattle.route_sheet.specs.SheetText.{joined}
-use Rattle.route_sheet.specs.Reading.{Got, readLines}
+use Rattle.planner.specs.Result.{Each}
+use Rattle.route_sheet.specs.Sheet.{joined}
+use Rattle.route_sheet.specs.Reading.{Parse, readLines}
 use Rattle.route_sheet.proofs.FormatLaws.{Format, some-value, nothing-written}
 use Rattle.route_sheet.proofs.SequenceLaws.{With, with-own, sequence}
 use Rattle.route_sheet.proofs.MappedFormats.{Makes, mapped, rewritten}
@@ -17,7 +17,7 @@ pub record Several {A : Type 0} (ok : A → Type 0) (n : ℕ) (xs : List A) : Ty
   pub each : Each ok xs
   pub count : length xs ≡ n
 
-module _ {A : Type 0} {text : A → List ℕ} {ok : A → Type 0} {read : List ℕ → Got A}
+module _ {A : Type 0} {text : A → List ℕ} {ok : A → Type 0} {read : List ℕ → Parse A}
     (f : Format text ok read) (one-line : (a : A) → lineEnds (text a) ≡ 1)
   where
     only-nil : (xs : List A) → Several ok 0 xs → xs ≡ []

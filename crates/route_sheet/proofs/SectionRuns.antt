@@ -6,12 +6,12 @@ use native.Mathlib.Omega.{arith}
 use borrow.Author.Tests.{lt-ltb, le-ltb}
 use lib.ListN.{length, drop, set, replicate, length-append}
 use lib.Seq.{set-at}
-use Rattle.route_sheet.specs.Reading.{Got, got, stuck, readLines}
-use Rattle.route_sheet.specs.Inner.Sections.{ValuesIn, Section}
-use Rattle.route_sheet.proofs.LineRunLaws.{prepend, prepend-none, lines-next, lines-stuck, lines-done}
+use Rattle.route_sheet.specs.Reading.{Parse, parsed, failed, readLines}
+use Rattle.route_sheet.specs.Inner.Sections.{ValuesIn, ReadsSection}
+use Rattle.route_sheet.proofs.LineRunLaws.{prepend, prepend-none, lines-next, lines-failed, lines-done}
 
 -- After `done` of `count` lines.
-pub record LinesRead {A : Type 0} (read : List ℕ → Got A) (text : List ℕ) (from most : ℕ) (unused : A) (count done next : ℕ)
+pub record LinesRead {A : Type 0} (read : List ℕ → Parse A) (text : List ℕ) (from most : ℕ) (unused : A) (count done next : ℕ)
     (places : List A) : Type 0 where
   pub lines : ValuesIn most unused count done places
   pub found : readLines read count (drop from text) ≡ prepend (lines .values) (readLines read (count - done) (drop next text))
@@ -38,7 +38,7 @@ module _ {A : Type 0} (most : ℕ) (unused : A) (count : ℕ) where
         done-count = omega arith;
       }
 
-module _ {A : Type 0} {read : List ℕ → Got A} {text : List ℕ} {from most : ℕ} {unused : A} {count : ℕ} where
+module _ {A : Type 0} {read : List ℕ → Parse A} {text : List ℕ} {from most : ℕ} {unused : A} {count : ℕ} where
   pub none-read : LinesRead read text from most unused count 0 from (replicate most unused)
   unfolding no-values
   none-read =
@@ -53,7 +53,7 @@ module _ {A : Type 0} {read : List ℕ → Got A} {text : List ℕ} {from most :
     values = so-far .lines .values
 
     pub one-read :
-        (x : A) (after : ℕ) → count ≤ most → done < count → read (drop next text) ≡ got x (drop after text) →
+        (x : A) (after : ℕ) → count ≤ most → done < count → read (drop next text) ≡ parsed x (drop after text) →
         LinesRead read text from most unused count (done + 1) after (set places done x)
     unfolding one-value
     one-read x after h l e =
@@ -64,17 +64,17 @@ module _ {A : Type 0} {read : List ℕ → Got A} {text : List ℕ} {from most :
               so-far .found ∙ lines-next read values (count - done) (count - (done + 1)) (drop next text) x (drop after text) left e;
         }
 
-    pub section-stuck :
-        done < count → read (drop next text) ≡ stuck 0 →
-        Section (readLines read count (drop from text)) text most unused count done next places
-    section-stuck l e =
-        let stops = lines-stuck read values (count - done) (count - done - 1) (drop next text) (omega arith) e in
+    pub section-failed :
+        done < count → read (drop next text) ≡ failed 0 →
+        ReadsSection (readLines read count (drop from text)) text most unused count done next places
+    section-failed l e =
+        let stops = lines-failed read values (count - done) (count - done - 1) (drop next text) (omega arith) e in
         record {
           lines = so-far .lines;
-          found-is = rw (lt-ltb done count l) (so-far .found ∙ stops ∙ ap stuck (so-far .lines .done-are));
+          found-is = rw (lt-ltb done count l) (so-far .found ∙ stops ∙ ap failed (so-far .lines .done-are));
         }
 
-    pub section-whole : count ≤ done → Section (readLines read count (drop from text)) text most unused count done next places
+    pub section-whole : count ≤ done → ReadsSection (readLines read count (drop from text)) text most unused count done next places
     section-whole l =
         record {
           lines = so-far .lines;

@@ -3,10 +3,9 @@ use mathlib.Core.List.{List, _++_}
 use mathlib.Core.Path.{_≡_}
 use Prim.Native.Nat.{ℕ, _+_, _≤_, _<_}
 use lib.ListN.{length}
+use Rattle.planner.specs.Result.{Result, refused, given}
 use Rattle.route_sheet.specs.Text.{lineEnds}
-use Rattle.route_sheet.specs.Sheet.{Sheet, SheetAllowed}
-use Rattle.route_sheet.specs.SheetText.{sheetText}
-use Rattle.route_sheet.specs.Result.{Result, given, mostBytes, tooLong, malformed}
+use Rattle.route_sheet.specs.Sheet.{Sheet, SheetAllowed, sheetText}
 
 -- A text that can go on to be the whole text of a sheet.
 pub record CanBegin (text : List ℕ) : Type 0 where
@@ -26,11 +25,15 @@ pub record LongestBeginning (text beginning : List ℕ) : Type 0 where
 abbrev pub NoSheet : List ℕ → Type 0
 NoSheet text = (sheet : Sheet) → SheetAllowed sheet → text ≡ sheetText sheet → ⊥
 
--- What a text comes to. "12 comes before 11, since such a sheet is not read further." "The line in refusal 11 is one more than the line
+-- "sheet above 65,535 bytes"
+abbrev pub mostBytes : ℕ
+mostBytes = 65535
+
+-- What a text comes to; a refusal is its number and its line, 0 where it has none. "12 comes before 11, since such a sheet is not read further." "The line in refusal 11 is one more than the line
 -- ends before the first byte (or end) that cannot go on."
-pub data ComesTo (text : List ℕ) : Result Sheet → Type 0 where
-  too-long : mostBytes < length text → ComesTo text tooLong
+pub data ComesTo (text : List ℕ) : Result (ℕ × ℕ) Sheet → Type 0 where
+  too-long : mostBytes < length text → ComesTo text (refused (12, 0))
   listed : {sheet : Sheet} → length text ≤ mostBytes → SheetAllowed sheet → text ≡ sheetText sheet → ComesTo text (given sheet)
   malformed-at :
       {beginning : List ℕ} → length text ≤ mostBytes → NoSheet text → LongestBeginning text beginning →
-      ComesTo text (malformed (1 + lineEnds beginning))
+      ComesTo text (refused (11, 1 + lineEnds beginning))

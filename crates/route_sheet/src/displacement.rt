@@ -5,10 +5,10 @@ use crate::number::read_number;
 ghost use mathlib.Core.Path.{_≡_};
 ghost use Prim.Native.Nat.{_≤_};
 ghost use lib.ListN.{drop};
-ghost use Rattle.planner.specs.Direction.{signed};
+ghost use Rattle.planner.specs.Quantities.{signed};
 ghost use Rattle.route_sheet.specs.Sheet.{mostDisplacement};
 ghost use Rattle.route_sheet.specs.Reading.{readDisplacement};
-ghost use Rattle.route_sheet.specs.Inner.Parts.{readSize, displacementRead};
+ghost use Rattle.route_sheet.specs.Inner.Parts.{readSize, displacementParse};
 
 const MINUS: u8 = b'-';
 
@@ -32,7 +32,7 @@ fn with_sign(size: u64, negative: bool) -> i64
 }
 
 fn read_size(text: &[u8], from: usize, least: u64, negative: bool) -> DisplacementRead
-    ensures { λ r. ⌜ displacementRead (now (text .entry)) r ≡ readSize least negative (drop from (now (text .entry))) ⌝ }
+    ensures { λ r. ⌜ displacementParse (now (text .entry)) r ≡ readSize least negative (drop from (now (text .entry))) ⌝ }
 {
     let size = read_number(text, from, least, MOST_DISPLACEMENT, SPACE);
     let NumberRead::Number(value, next) = size else {
@@ -43,7 +43,7 @@ fn read_size(text: &[u8], from: usize, least: u64, negative: bool) -> Displaceme
 
 // The displacement that starts at `from`. After a minus the size is at least 1: "-0" is malformed.
 pub(crate) fn read_displacement(text: &[u8], from: usize) -> DisplacementRead
-    ensures { λ r. ⌜ displacementRead (now (text .entry)) r ≡ readDisplacement (drop from (now (text .entry))) ⌝ }
+    ensures { λ r. ⌜ displacementParse (now (text .entry)) r ≡ readDisplacement (drop from (now (text .entry))) ⌝ }
 {
     if text.len() <= from {
         return DisplacementRead::Unread;

@@ -15,7 +15,7 @@ use crate::route::put_moves;
 use crate::sheet::read_lines;
 use crate::sheet::refused;
 ghost use mathlib.Core.Path.{_≡_};
-ghost use Rattle.route_sheet.specs.Answer.{number, held, ReadsSheet};
+ghost use Rattle.route_sheet.specs.Answer.{numberAndLine, ReadsSheet};
 ghost use Rattle.route_sheet.specs.Report.{Reports};
 
 // The longest text that is read.
@@ -61,7 +61,7 @@ pub struct SheetReading {
 
 // Reads the text of a sheet, or names its refusal.
 pub fn read_sheet(text: &[u8]) -> SheetReading
-    ensures { λ r. ⌜ ReadsSheet (now (text .entry)) (held r) ⌝ }
+    ensures { λ r. ⌜ ReadsSheet (now (text .entry)) r ⌝ }
 {
     if MOST_BYTES < text.len() {
         return refused(SheetRefusal::TooLong);
@@ -71,7 +71,7 @@ pub fn read_sheet(text: &[u8]) -> SheetReading
 
 // The paper's number of a refusal.
 pub fn refusal_number(refusal: SheetRefusal) -> u64
-    ensures { λ r. ⌜ r ≡ number refusal ⌝ }
+    ensures { λ r. ⌜ r ≡ numberAndLine refusal .0 ⌝ }
 {
     match refusal {
         SheetRefusal::Malformed { line: _ } => 11,

@@ -12,7 +12,7 @@ ghost use Prim.Native.Nat.{_≤_};
 ghost use lib.ListN.{drop};
 ghost use Rattle.route_sheet.specs.Sheet.{mostNumber};
 ghost use Rattle.route_sheet.specs.Reading.{readSet, readMove};
-ghost use Rattle.route_sheet.specs.Inner.Parts.{setRead, moveRead};
+ghost use Rattle.route_sheet.specs.Inner.Parts.{setParse, moveParse};
 
 // The largest number of 19 digits.
 const MOST_NUMBER: u64 = 9_999_999_999_999_999_999;
@@ -30,7 +30,7 @@ pub(crate) enum MoveRead {
 
 // The line V A J S that starts at `from`.
 pub(crate) fn read_set(text: &[u8], from: usize) -> SetRead
-    ensures { λ r. ⌜ setRead (now (text .entry)) r ≡ readSet (drop from (now (text .entry))) ⌝ }
+    ensures { λ r. ⌜ setParse (now (text .entry)) r ≡ readSet (drop from (now (text .entry))) ⌝ }
 {
     let v = read_number(text, from, 0, MOST_NUMBER, SPACE);
     let NumberRead::Number(velocity, after_v) = v else {
@@ -62,7 +62,7 @@ pub(crate) fn read_set(text: &[u8], from: usize) -> SetRead
 // The line of X and the set number, from 1 to `sets`, that starts at `from`.
 pub(crate) fn read_move(text: &[u8], from: usize, sets: u64) -> MoveRead
     requires { ⌜ sets ≤ mostNumber ⌝ }
-    ensures { λ r. ⌜ moveRead (now (text .entry)) r ≡ readMove sets (drop from (now (text .entry))) ⌝ }
+    ensures { λ r. ⌜ moveParse (now (text .entry)) r ≡ readMove sets (drop from (now (text .entry))) ⌝ }
 {
     let x = read_displacement(text, from);
     let DisplacementRead::Displacement(displacement, after_x) = x else {

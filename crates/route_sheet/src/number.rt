@@ -3,7 +3,7 @@ ghost use mathlib.Core.Path.{_≡_};
 ghost use Prim.Native.Nat.{_≤_};
 ghost use Rattle.route_sheet.specs.Sheet.{mostNumber};
 ghost use Rattle.route_sheet.specs.Reading.{isDigit, begins, goesOn};
-ghost use Rattle.route_sheet.specs.Inner.Parts.{DigitsSpan, DigitsRead, ReadsNumber};
+ghost use Rattle.route_sheet.specs.Inner.Parts.{DigitsSpan, ReadsDigits, ReadsNumber};
 
 pub(crate) const SPACE: u8 = b' ';
 
@@ -58,7 +58,7 @@ fn goes_on(most: u64, n: u64, b: u8) -> bool
 // The number whose digits so far make `first`.
 fn read_digits(text: &[u8], from: usize, first: u64, most: u64, end: u8) -> NumberRead
     requires { ⌜ DigitsSpan first most ⌝ }
-    ensures { λ r. ⌜ DigitsRead (now (text .entry)) from first most end r ⌝ }
+    ensures { λ r. ⌜ ReadsDigits (now (text .entry)) from first most end r ⌝ }
 {
     let mut n = first;
     let mut i = from;

@@ -1,8 +1,8 @@
 // The report's bytes: texts and numbers put one after the other.
 use crate::REPORT_BYTES;
 ghost use mathlib.Core.List.{_++_};
-ghost use Rattle.route_sheet.specs.Decimal.{decimal};
-ghost use Rattle.route_sheet.specs.Report.{endOfLine};
+ghost use Rattle.route_sheet.specs.Text.{lineEnd, decimal};
+ghost use Rattle.route_sheet.specs.Sheet.{ended};
 ghost use Rattle.route_sheet.specs.Inner.Output.{Puts, Room};
 
 // Puts `text` from offset `at` on, and answers the offset after it.
@@ -43,8 +43,8 @@ pub(crate) fn put_field(out: &mut [u8; REPORT_BYTES], at: usize, word: &[u8], n:
 
 // Puts a word and its number at the end of a line.
 pub(crate) fn put_last_field(out: &mut [u8; REPORT_BYTES], at: usize, word: &[u8], n: u64) -> usize
-    requires { ⌜ Room at ((now word ++ decimal n) ++ endOfLine) ⌝ }
-    ensures { λ r. ⌜ Puts (now (out .entry)) at ((now (word .entry) ++ decimal n) ++ endOfLine) r (now (out .exit)) ⌝ }
+    requires { ⌜ Room at (ended lineEnd (now word ++ decimal n)) ⌝ }
+    ensures { λ r. ⌜ Puts (now (out .entry)) at (ended lineEnd (now (word .entry) ++ decimal n)) r (now (out .exit)) ⌝ }
 {
     let end = put_field(out, at, word, n);
     put_text(out, end, b"\n")
@@ -59,8 +59,8 @@ pub(crate) fn put_two_fields(
     second: &[u8],
     n: u64,
 ) -> usize
-    requires { ⌜ Room at ((now first ++ decimal m) ++ ((now second ++ decimal n) ++ endOfLine)) ⌝ }
-    ensures { λ r. ⌜ Puts (now (out .entry)) at ((now (first .entry) ++ decimal m) ++ ((now (second .entry) ++ decimal n) ++ endOfLine)) r (now (out .exit)) ⌝ }
+    requires { ⌜ Room at ((now first ++ decimal m) ++ ended lineEnd (now second ++ decimal n)) ⌝ }
+    ensures { λ r. ⌜ Puts (now (out .entry)) at ((now (first .entry) ++ decimal m) ++ ended lineEnd (now (second .entry) ++ decimal n)) r (now (out .exit)) ⌝ }
 {
     let next = put_field(out, at, first, m);
     put_last_field(out, next, second, n)

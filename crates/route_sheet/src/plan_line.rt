@@ -8,16 +8,16 @@ use planner::Plan;
 use planner::PlanAnswer;
 use planner::plan_move;
 use planner::refusal_number;
-ghost use Rattle.planner.specs.Answer.{outcome};
+ghost use Rattle.planner.specs.Result.{given};
 ghost use Rattle.planner.specs.Outcome.{outcomeOf};
 ghost use Rattle.route_sheet.specs.Report.{moveReport};
 ghost use Rattle.route_sheet.specs.Inner.Output.{Puts};
-ghost use Rattle.route_sheet.specs.Inner.Lines.{durationsText, DurationsRoom, snapText, SnapRoom, PlanRoom, LineRoom};
+ghost use Rattle.route_sheet.specs.Inner.Lines.{intervals, durationsText, DurationsRoom, snapText, SnapRoom, PlanRoom, LineRoom};
 
 // N and the durations p, q, r, s.
 fn put_durations(out: &mut [u8; REPORT_BYTES], at: usize, a: u64, b: u64, c: u64, e: u64) -> usize
-    requires { ⌜ DurationsRoom a b c e at ⌝ }
-    ensures { λ r. ⌜ Puts (now (out .entry)) at (durationsText a b c e) r (now (out .exit)) ⌝ }
+    requires { ⌜ DurationsRoom (intervals a b c e) at ⌝ }
+    ensures { λ r. ⌜ Puts (now (out .entry)) at (durationsText (intervals a b c e)) r (now (out .exit)) ⌝ }
 {
     let at_p = put_field(out, at, b" n ", a + b + c + e);
     let at_q = put_field(out, at_p, b" p ", a);
@@ -40,7 +40,7 @@ fn put_snap(out: &mut [u8; REPORT_BYTES], at: usize, x: i64, d: u64) -> usize
 // The line of a planned move.
 fn put_plan(out: &mut [u8; REPORT_BYTES], at: usize, number: u64, x: i64, plan: Plan) -> usize
     requires { ⌜ PlanRoom number x plan at ⌝ }
-    ensures { λ r. ⌜ Puts (now (out .entry)) at (moveReport number x (outcome (PlanAnswer.Planned plan))) r (now (out .exit)) ⌝ }
+    ensures { λ r. ⌜ Puts (now (out .entry)) at (moveReport number x (given plan)) r (now (out .exit)) ⌝ }
 {
     let at_n = put_field(out, at, b"move ", number);
     let at_snap = put_durations(out, at_n, plan.a, plan.b, plan.c, plan.e);
@@ -51,7 +51,7 @@ fn put_plan(out: &mut [u8; REPORT_BYTES], at: usize, number: u64, x: i64, plan: 
 // Plans a move and puts its line.
 pub(crate) fn put_move(out: &mut [u8; REPORT_BYTES], at: usize, number: u64, m: Move) -> usize
     requires { ⌜ LineRoom at number ⌝ }
-    ensures { λ r. ⌜ Puts (now (out .entry)) at (moveReport number (m .displacement) (outcomeOf (m .displacement) (m .velocity) (m .acceleration) (m .jerk) (m .snap))) r (now (out .exit)) ⌝ }
+    ensures { λ r. ⌜ Puts (now (out .entry)) at (moveReport number (m .displacement) (outcomeOf m)) r (now (out .exit)) ⌝ }
 {
     let x = m.displacement;
     let answer = plan_move(m);

@@ -11,18 +11,18 @@ use crate::sections::SetsRead;
 use crate::sections::read_moves;
 use crate::sections::read_sets;
 ghost use mathlib.Core.Path.{_≡_};
-ghost use Rattle.route_sheet.specs.Result.{malformed as malformedAt};
-ghost use Rattle.route_sheet.specs.Reading.{readSections, resultOf};
-ghost use Rattle.route_sheet.specs.Inner.Sections.{SetsHeld, readAfter};
-ghost use Rattle.route_sheet.specs.Answer.{refusal as refusalOf, held, heldOf};
+ghost use Rattle.planner.specs.Result as result;
+ghost use Rattle.route_sheet.specs.Reading.{readSections, wholeSheet};
+ghost use Rattle.route_sheet.specs.Answer.{contents, contentsOf, numberAndLine};
+ghost use Rattle.route_sheet.specs.Inner.Sections.{AllSetsRead, readAfter};
 
 const MOST_SETS: u64 = 16;
 
 const MOST_MOVES: u64 = 256;
 
-// A refused sheet holds nothing.
+// A refused sheet lists nothing.
 pub(crate) fn refused(refusal: SheetRefusal) -> SheetReading
-    ensures { λ r. ⌜ held r ≡ heldOf (refusalOf refusal) ⌝ }
+    ensures { λ r. ⌜ contents r ≡ contentsOf (result.refused (numberAndLine refusal)) ⌝ }
 {
     let answer = SheetAnswer::Refused(refusal);
     let sets = zero_sets();
@@ -35,14 +35,14 @@ pub(crate) fn refused(refusal: SheetRefusal) -> SheetReading
 }
 
 fn malformed(line: u64) -> SheetReading
-    ensures { λ r. ⌜ held r ≡ heldOf (malformedAt line) ⌝ }
+    ensures { λ r. ⌜ contents r ≡ contentsOf (result.refused (numberAndLine (SheetRefusal.Malformed line))) ⌝ }
 {
     refused(SheetRefusal::Malformed { line })
 }
 
 // Reads a text of any length. A line's number is one more than the lines before it.
 pub(crate) fn read_lines(text: &[u8]) -> SheetReading
-    ensures { λ r. ⌜ held r ≡ heldOf (resultOf (readSections (now (text .entry)))) ⌝ }
+    ensures { λ r. ⌜ contents r ≡ contentsOf (wholeSheet (readSections (now (text .entry)))) ⌝ }
 {
     let count = read_number(text, 0, 1, MOST_SETS, LINE_END);
     let NumberRead::Number(sets, next) = count else {
@@ -57,8 +57,8 @@ pub(crate) fn read_lines(text: &[u8]) -> SheetReading
 
 // Reads on after a first section of which all sets were read.
 fn read_second(text: &[u8], first: SetsRead) -> SheetReading
-    requires { ⌜ SetsHeld first ⌝ }
-    ensures { λ r. ⌜ held r ≡ heldOf (resultOf (readAfter first (now (text .entry)))) ⌝ }
+    requires { ⌜ AllSetsRead first ⌝ }
+    ensures { λ r. ⌜ contents r ≡ contentsOf (wholeSheet (readAfter first (now (text .entry)))) ⌝ }
 {
     let sets = first.done;
     let count = read_number(text, first.next, 1, MOST_MOVES, LINE_END);

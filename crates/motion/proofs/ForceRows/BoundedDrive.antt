@@ -10,10 +10,10 @@ use lib.Ieee.{Float, nan, inf, fin, binary64, up, down, round, sum, neg, add, su
 use lib.Ieee.Exact.{HasValue}
 use lib.Ieee.Scale.{finite, round-val, round-under}
 use lib.Ieee.Positive.{num, den, den-pos}
-use Rattle.planner.specs.Direction.{signed}
+use Rattle.planner.specs.Quantities.{signed}
 use Rattle.motion.specs.ForceRows.Machine.{plusZero, leastStiffness}
 use Rattle.motion.specs.ForceRows.Force.{one, two, g, alpha, beta}
-use Rattle.motion.specs.ForceRows.Exact.{IsWhole}
+use Rattle.motion.specs.ForceRows.Claims.{IsWhole}
 use Rattle.motion.proofs.ForceRows.WholeFloats.{zero-equals}
 use Rattle.motion.proofs.ForceRows.RoundedLaws.{opened-sum, opened-product}
 use Rattle.motion.proofs.ForceRows.SizeLaws.{_⪯_, minus-zero, ⪯-closed, round-⪯, bound}

@@ -10,13 +10,13 @@ use lib.IntN.{ℤ, negsuc, natAbs, _+ℤ_}
 use lib.Ieee.{Float, nan, inf, fin, binary64, up, down, unlike, round, add, mul, div, ofInt}
 use lib.Ieee.Scale.{finite}
 use lib.Ieee.Positive.{num, den, den-pos, first-pos}
-use Rattle.planner.specs.Direction.{signed}
-use Rattle.motion.specs.ForceRows.Exact.{IsRounded}
+use Rattle.planner.specs.Quantities.{signed}
+use Rattle.motion.specs.ForceRows.Claims.{IsRounded}
 use Rattle.motion.proofs.IntegerLaws.{size-sum}
 use Rattle.motion.proofs.ForceRows.SignedLaws.{size-signed}
 use Rattle.motion.proofs.ForceRows.SignedSums.{signed-sum}
 use Rattle.motion.proofs.ForceRows.RoundedLaws.{cast-rounded, opened-sum, opened-product, opened-quotient}
-use Rattle.motion.proofs.ForceRows.SizeLaws.{_⪯_, round-bound, bound, held}
+use Rattle.motion.proofs.ForceRows.SizeLaws.{_⪯_, round-bound, bound, representable}
 
 -- x is a fraction of at most n/d in size, rounded once
 pub record RoundsAtMost (x : Float) (n d : ℕ) : Type 0 where
@@ -25,7 +25,7 @@ pub record RoundsAtMost (x : Float) (n d : ℕ) : Type 0 where
   pub size-le : size ≤ n
   pub rounded : x ≡ round binary64 negative size d
 
-at-most : {x : Float} {n d : ℕ} (q j : ℕ) → RoundsAtMost x n d → 0 < d → n ≤ q * 2 ^ j * d → T (held q j) → x ⪯ bound q j
+at-most : {x : Float} {n d : ℕ} (q j : ℕ) → RoundsAtMost x n d → 0 < d → n ≤ q * 2 ^ j * d → T (representable q j) → x ⪯ bound q j
 at-most {n} {d} q j h D l f = rw (h .rounded) (round-bound (h .negative) (h .size) d q j D (le-trans (h .size-le) l) f)
 
 of-rounded : {x : Float} {z : ℤ} {n d : ℕ} → IsRounded x z d → natAbs z ≤ n → RoundsAtMost x n d
@@ -80,13 +80,13 @@ crossed-sum a b p q u v w h k =
     let r : b * u ≤ q * w * (u * v) = simp products (simp products at (mul-le-mul-right u k)) in
     rw (add-mul p q w, add-mul (p * w) (q * w) (u * v)) (omega arith)
 
-pub sum-bound : {x y : Float} {p q j : ℕ} → x ⪯ bound p j → y ⪯ bound q j → T (held (p + q) j) → add binary64 x y ⪯ bound (p + q) j
+pub sum-bound : {x y : Float} {p q j : ℕ} → x ⪯ bound p j → y ⪯ bound q j → T (representable (p + q) j) → add binary64 x y ⪯ bound (p + q) j
 sum-bound {x} {y} {p} {q} {j} h k f =
     at-most (p + q) j (sum-size x y (h .is-finite) (k .is-finite)) (mul-pos (den-pos x) (den-pos y))
     (crossed-sum (num x) (num y) p q (den x) (den y) (2 ^ j) (h .size-le) (k .size-le)) f
 
 pub product-bound :
-    {x y : Float} {p q i j : ℕ} → x ⪯ bound p i → y ⪯ bound q j → T (held (p * q) (i + j)) → mul binary64 x y ⪯ bound (p * q) (i + j)
+    {x y : Float} {p q i j : ℕ} → x ⪯ bound p i → y ⪯ bound q j → T (representable (p * q) (i + j)) → mul binary64 x y ⪯ bound (p * q) (i + j)
 product-bound {x} {y} {p} {q} {i} {j} h k f =
     at-most (p * q) (i + j) (product-size x y (h .is-finite) (k .is-finite)) (mul-pos (den-pos x) (den-pos y))
     (simp (pow-add, products) (simp products at (mul-le-mul (h .size-le) (k .size-le)))) f
@@ -96,7 +96,7 @@ module _ {y : Float} {i : ℕ} (k : fin false 1 (negsuc i) ⪯ y) (F : T (finite
   above-zero : 0 < num y
   above-zero = first-pos (num y) (2 ^ suc i) (lt-of-lt-of-le (den-pos y) (simp products at (k .size-le)))
 
-  pub quotient-bound : {x : Float} {p j : ℕ} → x ⪯ bound p j → T (held p (j + suc i)) → div binary64 x y ⪯ bound p (j + suc i)
+  pub quotient-bound : {x : Float} {p j : ℕ} → x ⪯ bound p j → T (representable p (j + suc i)) → div binary64 x y ⪯ bound p (j + suc i)
   quotient-bound {x} {p} {j} h f =
       at-most p (j + suc i) (quotient-size x y (h .is-finite) F above-zero) (mul-pos above-zero (den-pos x))
       (simp (pow-add, products) (simp products at (mul-le-mul (h .size-le) (k .size-le)))) f

@@ -5,8 +5,7 @@ use lib.IntN.{ℤ}
 use lib.Ieee.{Float, lt, eq, le}
 use Rattle.motion.specs.ForceRows.Machine.{Machine, plusZero, most, leastStiffness, inRange}
 use Rattle.motion.specs.ForceRows.Doubled.{Doubled, cast}
-use Rattle.motion.specs.ForceRows.Formula.{sumInU, q1, q2, q3, q4, weightedSum}
-use Rattle.motion.specs.ForceRows.Force.{half, u}
+use Rattle.motion.specs.ForceRows.Force.{sumInU, q1, q2, q3, q4, weightedSum, half, u}
 use Rattle.motion.specs.Inner.Rows.{Castable}
 use Rattle.motion.proofs.ForceRows.MachineLaws.{InRange, range-parts}
 use Rattle.motion.proofs.ForceRows.SizeLaws.{_⪯_, ⪯-of-le, ⪯-closed, bound}

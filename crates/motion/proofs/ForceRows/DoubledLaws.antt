@@ -6,13 +6,13 @@ use native.Mathlib.Nat.{le-of-lt}
 use native.Mathlib.Omega.{arith}
 use lib.Dec.{T, leb, nleb→lt}
 use lib.IntN.{ℤ, pos, natAbs, _+ℤ_, _*ℤ_}
-use Rattle.planner.specs.Durations.{N}
-use Rattle.profile.specs.Sums.{sums}
+use Rattle.planner.specs.Intervals.{Intervals, N}
+use Rattle.profile.specs.Inner.Repeated.{sums}
 use Rattle.motion.specs.Inner.Rows.{Castable}
-use Rattle.motion.specs.Direction as direction
+use Rattle.motion.specs.Sampling.{valuesAt}
 use Rattle.motion.specs.ForceRows.Doubled.{Doubled, earlier, upTo, doubled}
 use Rattle.motion.specs.Inner.Steps.{stateAt}
-use Rattle.motion.specs.Inner.Planned.{WithinRange, plannedNumbers}
+use Rattle.motion.specs.Inner.Planned.{WithinRange, directedSnap, plannedNumbers}
 use Rattle.motion.proofs.IntegerLaws.{size-sum, size-doubled}
 use Rattle.motion.proofs.RestLaws as rest
 use Rattle.motion.proofs.StateLaws.{directed, state-is, snap-most, jerk-most, acceleration-most, velocity-most}
@@ -38,26 +38,26 @@ twice x h = omega (arith, size-doubled x)
 both : (x y : ℤ) → natAbs x ≤ 2 ^ 50 → natAbs y ≤ 2 ^ 50 → natAbs (x +ℤ y) ≤ 2 ^ 53
 both x y h k = omega (arith, size-sum x y)
 
-module _ (X : ℤ) (a b c e D : ℕ) (h : WithinRange a b c e D) where
+module _ (X : ℤ) (t : Intervals) (D : ℕ) (h : WithinRange t D) where
   abbrev snap : ℕ → ℤ
-  snap = direction.snap X a b c e D
+  snap = directedSnap X t D
 
   -- the numbers as the sums of the snap give them
   abbrev pub summedNumbers : ℕ → Doubled ℤ
   summedNumbers = doubled snap (sums 1 snap) (sums 2 snap) (sums 3 snap)
 
-  by-sums : (k : ℕ) → directed X a b c e D k ≡ stateAt snap k
-  by-sums k = sym (state-is X a b c e D k)
+  by-sums : (k : ℕ) → directed X t D k ≡ stateAt snap k
+  by-sums k = sym (state-is X t D k)
 
-  pub numbers-are : plannedNumbers X a b c e D ≡ summedNumbers
+  pub numbers-are : plannedNumbers X t D ≡ summedNumbers
   numbers-are =
-      let n = N a b c e in
+      let n = N t in
       let o = h .ordered in
       rw (
-        cut n (direction.snap X a b c e D) (rest.snap-rests X o D),
-        cut n (direction.jerk X a b c e D) (rest.jerk-rests X o D),
-        cut n (direction.acceleration X a b c e D) (rest.acceleration-rests X o D),
-        cut n (direction.velocity X a b c e D) (rest.velocity-rests X o D),
+        cut n snap (rest.snap-rests X o D),
+        cut n (λ k. valuesAt X t D k .jerk) (rest.jerk-rests X o D),
+        cut n (λ k. valuesAt X t D k .acceleration) (rest.acceleration-rests X o D),
+        cut n (λ k. valuesAt X t D k .velocity) (rest.velocity-rests X o D),
       )
       (λ i. doubled snap (λ k. by-sums k i .jerk) (λ k. by-sums k i .acceleration) (λ k. by-sums k i .velocity))
 
@@ -65,13 +65,13 @@ module _ (X : ℤ) (a b c e D : ℕ) (h : WithinRange a b c e D) where
   unfolding doubled sums
   castable k =
       record {
-        d2 = twice (earlier snap 2 k) (earlier-size snap (2 ^ 50) (snap-most X a b c e D h) 2 k);
+        d2 = twice (earlier snap 2 k) (earlier-size snap (2 ^ 50) (snap-most X t D h) 2 k);
         j2 =
-            both (earlier (sums 1 snap) 1 k) (earlier (sums 1 snap) 2 k) (earlier-size (sums 1 snap) (2 ^ 50) (jerk-most X a b c e D h) 1 k)
-            (earlier-size (sums 1 snap) (2 ^ 50) (jerk-most X a b c e D h) 2 k);
-        a2 = twice (earlier (sums 2 snap) 1 k) (earlier-size (sums 2 snap) (2 ^ 50) (acceleration-most X a b c e D h) 1 k);
+            both (earlier (sums 1 snap) 1 k) (earlier (sums 1 snap) 2 k) (earlier-size (sums 1 snap) (2 ^ 50) (jerk-most X t D h) 1 k)
+            (earlier-size (sums 1 snap) (2 ^ 50) (jerk-most X t D h) 2 k);
+        a2 = twice (earlier (sums 2 snap) 1 k) (earlier-size (sums 2 snap) (2 ^ 50) (acceleration-most X t D h) 1 k);
         v2 =
             both (earlier (sums 3 snap) 0 k) (earlier (sums 3 snap) 1 k)
-            (earlier-size (sums 3 snap) (2 ^ 50) (velocity-most X a b c e D h) 0 k)
-            (earlier-size (sums 3 snap) (2 ^ 50) (velocity-most X a b c e D h) 1 k);
+            (earlier-size (sums 3 snap) (2 ^ 50) (velocity-most X t D h) 0 k)
+            (earlier-size (sums 3 snap) (2 ^ 50) (velocity-most X t D h) 1 k);
       }

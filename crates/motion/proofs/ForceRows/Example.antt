@@ -12,25 +12,24 @@ use lib.IntN.{ℤ, pos, natAbs, _+ℤ_, _*ℤ_}
 use lib.Ieee.{Float, fin, up, down, lt, eq, le}
 use lib.ListN.{getD, replicate}
 use lib.Ieee.Fits.{and-l, and-r}
-use Rattle.planner.specs.Quantities.{unitsPerCount, distance}
-use Rattle.planner.specs.Direction.{along}
-use Rattle.planner.specs.Direction as planner
+use Rattle.planner.specs.Quantities.{unitsPerCount, distance, along, signed}
+use Rattle.planner.specs.Intervals.{Intervals, interval-a, interval-b, interval-c, interval-e, a, J₁, b, A₁, c, V₁, e}
 use Rattle.planner.specs.Least.{firstFrom, least}
-use Rattle.planner.specs.Intervals.{interval-a, interval-b, interval-c, interval-e, a, J₁, b, A₁, c, V₁, e}
-use Rattle.planner.specs.Outcome.{firstRefusal, samplesOf, outcomeOf}
+use Rattle.planner.specs.Result.{firstRefusal}
+use Rattle.planner.specs.Outcome.{intervalsOf, samplesOf, outcomeOf}
+use Rattle.planner.specs.Inner.Facts.{PlanFacts}
+use Rattle.planner.specs.declared.Move.{Move}
 use Rattle.planner.proofs.PlannedFacts.{planned-facts}
-use Rattle.profile.specs.Segments.{segments, level, signed, snapIn}
-use Rattle.profile.specs.Sums.{sum}
+use Rattle.profile.specs.Profile.{segments, level, snapIn, sum}
 use Rattle.profile.specs.Profile as profile
-use Rattle.motion.specs.Direction as direction
+use Rattle.motion.specs.Sampling.{valuesAt}
 use Rattle.motion.specs.ForceRows.Machine.{Machine, plusZero, asRead, machineAsRead, inRange, machineInRange}
 use Rattle.motion.specs.ForceRows.Doubled.{Doubled, earlier, upTo, doubled}
-use Rattle.motion.specs.ForceRows.Formula.{wholes, sumInU, q1, q2, q3, q4, weightedSum}
-use Rattle.motion.specs.ForceRows.Exact.{IsWhole, IsRounded, IsWholeMachine, Expression, leaf, sumOf, productOf, inWholes, Within53, expressionOfU}
-use Rattle.motion.specs.Values as value
-use Rattle.motion.specs.ForceRows.Table.{machineCheck, rowNumbers, force, FillsForce}
+use Rattle.motion.specs.ForceRows.Force.{wholes, sumInU, q1, q2, q3, q4, weightedSum}
+use Rattle.motion.specs.ForceRows.Claims.{IsWhole, IsRounded, IsWholeMachine, Expression, constant, sumOf, productOf, inWholes, Within53, expressionOfU}
+use Rattle.motion.specs.Tables.{machineCheck, rowNumbers, force, FillsForce}
 use Rattle.motion.specs.Inner.Planned.{plannedNumbers}
-use Rattle.motion.proofs.EntryLaws.{Entered, rows-are, numbers-are}
+use Rattle.motion.proofs.EntryLaws.{rows-are, numbers-are}
 use Rattle.motion.proofs.RuleAnswers.{ruleTable, rule-fills}
 use Rattle.motion.proofs.ForceRows.Theorems.{rigid-row}
 
@@ -38,9 +37,15 @@ abbrev G : ℕ
 G = unitsPerCount
 
 -- "X = 8, V = 2G, A = S = J = G"
-plan : Entered (pos 8) (2 * G) G G G 1 1 2 4 G 0
-unfolding outcomeOf firstRefusal samplesOf distance a J₁ b A₁ c V₁ e interval-a interval-b interval-c interval-e least firstFrom
-plan = record { facts = planned-facts (record { outcome-is = refl }); outcome-is = refl }
+abbrev pub first : Move
+first = record { displacement = pos 8; velocity = 2 * G; acceleration = G; jerk = G; snap = G }
+
+abbrev intervals : Intervals
+intervals = record { a = 1; b = 1; c = 2; e = 4 }
+
+plan : PlanFacts first (record { a = 1; b = 1; c = 2; e = 4; snap = G; shortfall = 0 })
+unfolding outcomeOf firstRefusal samplesOf intervalsOf distance a J₁ b A₁ c V₁ e interval-a interval-b interval-c interval-e least firstFrom
+plan = planned-facts (record { outcome-is = refl })
 
 -- m1 = 3, m2 = 2, k1 = 1, k2 = 5, k12 = 0, c = 7, as floats m·2^e and as whole numbers
 pub machine : Machine Float
@@ -58,7 +63,7 @@ pub whole : Machine ℤ
 whole = record { m1 = pos 3; m2 = pos 2; k1 = pos 1; k2 = pos 5; k12 = pos 0; c = pos 7 }
 
 is-whole : IsWholeMachine machine whole
-unfolding machine whole planner.signed
+unfolding machine whole signed
 is-whole = record { m1 = exactly refl; m2 = exactly refl; k1 = exactly refl; k2 = exactly refl; k12 = exactly refl; c = exactly refl }
   where
     exactly : {m n : ℕ} {e : ℤ} → m * up e * 1 ≡ n * down e → IsWhole (fin false m e) (pos n)
@@ -70,7 +75,7 @@ in-range = refl
 
 -- whether every product and partial sum is at most 2^53 in size, by computation
 within : Expression → Bool
-within (leaf x z) = true
+within (constant z) = true
 within (sumOf s t) = within s && within t && leb (natAbs (inWholes s +ℤ inWholes t)) (2 ^ 53)
 within (productOf s t) = within s && within t && leb (natAbs (inWholes s *ℤ inWholes t)) (2 ^ 53)
 
@@ -81,7 +86,7 @@ three false q r h = absurd h
 
 all-within : (t : Expression) → T (within t) → Within53 t
 unfolding within Within53
-all-within (leaf x z) h = tt
+all-within (constant z) h = tt
 all-within (sumOf s t) h =
     let parts = three (within s) (within t) (leb (natAbs (inWholes s +ℤ inWholes t)) (2 ^ 53)) h in
     (all-within s (parts .0), all-within t (parts .1), leb→le _ _ (parts .2))
@@ -95,12 +100,11 @@ allBelow f (suc n) = allBelow f n && f n
 
 -- rows 0 to 9
 computed : ℕ → Bool
-computed k = within (expressionOfU machine whole (plannedNumbers (pos 8) 1 1 2 4 G k))
+computed k = within (expressionOfU whole (plannedNumbers (pos 8) intervals G k))
 
 rows : T (allBelow computed 10)
 unfolding allBelow computed within machine whole inWholes sumInU weightedSum q1 q2 q3 q4 doubled earlier upTo
-    direction.snap direction.jerk direction.acceleration direction.velocity along
-    profile.snap profile.jerk profile.acceleration profile.velocity sum segments snapIn signed level
+    valuesAt along profile.snap profile.jerk profile.acceleration profile.velocity sum segments snapIn level
 rows = tt
 
 all-below : (f : ℕ → Bool) (n : ℕ) → T (allBelow f n) → (k : ℕ) → k < n → T (f k)
@@ -112,31 +116,23 @@ all-below f (suc n) h k l =
       | inr q ↦ all-below f n (and-l (allBelow f n) (f n) h) k (le-of-suc-le-suc q)
     ]
 
-rows-within : (k : ℕ) → k < 10 → Within53 (expressionOfU machine whole (rowNumbers (pos 8) (2 * G) G G G k))
+rows-within : (k : ℕ) → k < 10 → Within53 (expressionOfU whole (rowNumbers first k))
 unfolding computed
 rows-within k l =
-    subst (λ (w : ℕ → Doubled ℤ). Within53 (expressionOfU machine whole (w k))) (numbers-are plan)
-    (all-within (expressionOfU machine whole (plannedNumbers (pos 8) 1 1 2 4 G k)) (all-below computed 10 rows k l))
+    subst (λ (w : ℕ → Doubled ℤ). Within53 (expressionOfU whole (w k))) (numbers-are plan)
+    (all-within (expressionOfU whole (plannedNumbers (pos 8) intervals G k)) (all-below computed 10 rows k l))
 
 -- so every row of their table is the exact half-sum over c, rounded once: here the rule's own table, in ten places
 abbrev pub ten : List Float
 ten = replicate 10 plusZero
 
 abbrev pub filledTen : List Float
-filledTen =
-    ruleTable (pos 8) (2 * G) G G G (machineCheck machine ∷ []) (value.N (pos 8) (2 * G) G G G + 2)
-    (force (pos 8) (2 * G) G G G machine) ten
+filledTen = ruleTable first (machineCheck machine ∷ []) (samplesOf first + 2) (force first machine) ten
 
-pub exact-example :
-    (k : ℕ)
-    → k < 10
-    → IsRounded (getD filledTen k plusZero) (sumInU wholes whole (rowNumbers (pos 8) (2 * G) G G G k)) (2 * 7)
+pub exact-example : (k : ℕ) → k < 10 → IsRounded (getD filledTen k plusZero) (sumInU wholes whole (rowNumbers first k)) (2 * 7)
 unfolding whole FillsForce
 exact-example k l =
-    let rows : value.N (pos 8) (2 * G) G G G + 2 ≡ 10 = sym (rows-are plan 2) in
-    let filled =
-    rule-fills (pos 8) (2 * G) G G G (machineCheck machine ∷ []) (value.N (pos 8) (2 * G) G G G + 2)
-    (force (pos 8) (2 * G) G G G machine) ten in
-    rigid-row (pos 8) (2 * G) G G G (plan .facts .accepted) machine whole is-whole in-range refl ten filledTen _
-    (rw rows (lit≤ tt)) filled k (rw rows l)
+    let rows : samplesOf first + 2 ≡ 10 = sym (rows-are plan 2) in
+    let filled = rule-fills first (machineCheck machine ∷ []) (samplesOf first + 2) (force first machine) ten in
+    rigid-row first (plan .accepted) machine whole is-whole in-range refl ten filledTen _ (rw rows (lit≤ tt)) filled k (rw rows l)
     (rows-within k l)

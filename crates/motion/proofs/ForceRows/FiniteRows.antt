@@ -10,21 +10,20 @@ use lib.Ieee.{Float, eq}
 use lib.Ieee.Fits.{and-i}
 use lib.Ieee.Scale.{finite}
 use lib.Ieee.Positive.{own-value}
-use Rattle.motion.specs.Values as value
 use Rattle.motion.specs.ForceRows.Machine.{Machine, plusZero, machineAsRead}
 use Rattle.motion.specs.ForceRows.Doubled.{Doubled}
 use Rattle.motion.specs.ForceRows.Force.{u, alpha, beta, rigid, filtered, driveOf, filteredForce, forceOf, forceRow}
 use Rattle.motion.specs.Inner.Rows.{Castable}
-use Rattle.motion.specs.ForceRows.Table.{rowNumbers, force}
+use Rattle.motion.specs.Tables.{rowNumbers, force}
 use Rattle.motion.specs.ForceRows.Claims.{FiniteClaim}
 use Rattle.motion.proofs.ForceRows.MachineLaws.{InRange, in-range, stiffness-positive}
 use Rattle.motion.proofs.ForceRows.Theorems.{rows-castable}
-use Rattle.motion.proofs.ForceRows.SizeLaws.{_⪯_, ⪯-closed, bound, held}
+use Rattle.motion.proofs.ForceRows.SizeLaws.{_⪯_, ⪯-closed, bound, representable}
 use Rattle.motion.proofs.ForceRows.BoundedFloats.{sum-bound, product-bound, quotient-bound}
 use Rattle.motion.proofs.ForceRows.BoundedMachine.{BoundedMachine, bounded-machine, u-bound}
 use Rattle.motion.proofs.ForceRows.BoundedDrive.{plus-of-value, plus-of-le, alpha-bound, beta-bound}
 
-holds : (q : ℕ) → q < 2 ^ 53 → T (held q 113)
+holds : (q : ℕ) → q < 2 ^ 53 → T (representable q 113)
 holds q h = and-i (ltb q (2 ^ 53)) (leb 113 900) (lt→ltb q (2 ^ 53) h) tt
 
 -- A row of a filtered drive adds at most 24·2^113, as α is at most 1.
@@ -72,7 +71,6 @@ module _ (m : Machine Float) (w : ℕ → Doubled ℤ) (range : InRange m) (cast
           filtered-bound a (beta-bound (b .k12) (b .c) (b .stiff) p q) bounds k l .is-finite
 
 pub rows-finite : FiniteClaim
-unfolding force value.N
-rows-finite X V₀ A₀ J₀ S₀ h m range k l =
-    row-finite (machineAsRead m) (rowNumbers X V₀ A₀ J₀ S₀) (in-range (machineAsRead m) range) (rows-castable h) k
-    (omega (arith, h .short-enough))
+unfolding force
+rows-finite m h machine range k l =
+    row-finite (machineAsRead machine) (rowNumbers m) (in-range (machineAsRead machine) range) (rows-castable h) k (omega (arith, h .short-enough))

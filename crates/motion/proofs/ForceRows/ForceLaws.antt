@@ -7,13 +7,12 @@ use native.Mathlib.Omega.{arith}
 use lib.IntN.{ℤ}
 use lib.ListN.{length}
 use lib.Ieee.{Float}
-use Rattle.planner.specs.Durations.{N}
-use Rattle.profile.specs.Sums.{sum, sums}
-use Rattle.motion.specs.Direction as direction
+use Rattle.planner.specs.Intervals.{Intervals, N}
+use Rattle.profile.specs.Profile.{sum}
+use Rattle.profile.specs.Inner.Repeated.{sums}
 use Rattle.motion.specs.ForceRows.Machine.{Machine, plusZero}
 use Rattle.motion.specs.ForceRows.Doubled.{Doubled, earlier, doubled}
-use Rattle.motion.specs.ForceRows.Formula.{sumInU}
-use Rattle.motion.specs.ForceRows.Force.{DriveKind, rigid, filtered, driveOf, u, forceOf, forceRow}
+use Rattle.motion.specs.ForceRows.Force.{sumInU, DriveKind, rigid, filtered, driveOf, u, forceOf, forceRow}
 use Rattle.motion.specs.declared.force.feedforward.Feedforward.{Feedforward}
 use Rattle.motion.specs.declared.force.doubled.Earlier.{Earlier}
 use Rattle.motion.specs.declared.force.rows.Row.{Row}
@@ -21,7 +20,7 @@ use Rattle.motion.specs.declared.force.rows.RowState.{RowState}
 use Rattle.motion.specs.Inner.Steps.{stateAt}
 use Rattle.motion.specs.Inner.Runs.{CanRun, Ran}
 use Rattle.motion.specs.Inner.Rows.{IsFeedforward, uBy, forceBy, rowIn, firstRow, forceWriter}
-use Rattle.motion.specs.Inner.Planned.{WithinRange, RowsIn, plannedNumbers}
+use Rattle.motion.specs.Inner.Planned.{WithinRange, directedSnap, RowsIn, plannedNumbers}
 use Rattle.motion.proofs.StepLaws.{next}
 use Rattle.motion.proofs.StateLaws.{step-fits}
 use Rattle.motion.proofs.RowLaws.{Carries}
@@ -80,28 +79,28 @@ module _ {m : Machine Float} {x : Feedforward} (is : IsFeedforward m x) (f : ℕ
         place-is = λ k. refl;
       }
 
-module _ (X : ℤ) (a b c e D : ℕ) (h : WithinRange a b c e D) {m : Machine Float} {x : Feedforward} (is : IsFeedforward m x) where
+module _ (X : ℤ) (t : Intervals) (D : ℕ) (h : WithinRange t D) {m : Machine Float} {x : Feedforward} (is : IsFeedforward m x) where
   abbrev snap : ℕ → ℤ
-  snap = direction.snap X a b c e D
+  snap = directedSnap X t D
 
   pub forces-can-run :
-      (more : ℕ) {places : ℕ}
-      → more ≤ 2
-      → N a b c e + more ≤ places
-      → CanRun (forceWriter x) (run X a b c e D h more) firstRow places
+      (trailing : ℕ) {places : ℕ}
+      → trailing ≤ 2
+      → N t + trailing ≤ places
+      → CanRun (forceWriter x) (run X t D h trailing) firstRow places
   unfolding rowStateAt earlierAt previousRow doubled earlier sum sums
-  forces-can-run more few l =
-      can-run X a b c e D h (carried is snap) more
-      (λ i k. record { step = step-fits X a b c e D h i (omega (arith, h .samples)); casts = castable X a b c e D h i })
+  forces-can-run trailing few l =
+      can-run X t D h (carried is snap) trailing
+      (λ i k. record { step = step-fits X t D h i (omega (arith, h .samples)); casts = castable X t D h i })
       l
 
   pub forces-in :
       {old new : List Float} {end : RowState}
-      → N a b c e + 2 ≤ length old
-      → Ran (forceWriter x) (run X a b c e D h 2) firstRow old new end
-      → RowsIn (N a b c e + 2) (forceRow m (plannedNumbers X a b c e D)) old new
+      → N t + 2 ≤ length old
+      → Ran (forceWriter x) (run X t D h 2) firstRow old new end
+      → RowsIn (N t + 2) (forceRow m (plannedNumbers X t D)) old new
   unfolding rowStateAt earlierAt previousRow earlier sum sums
-  forces-in {old} {new} l t =
-      let same : (λ k. rowIn x (rowStateAt is snap k) .force) ≡ forceRow m (plannedNumbers X a b c e D) =
-      fun-ext (λ k. ap (λ (r : Row). r .force) (row-is is snap k)) ∙ ap (forceRow m) (sym (numbers-are X a b c e D h)) in
-      subst (λ (row : ℕ → Float). RowsIn (N a b c e + 2) row old new) same (rows-in X a b c e D h (carried is snap) 2 l t)
+  forces-in {old} {new} l ran =
+      let same : (λ k. rowIn x (rowStateAt is snap k) .force) ≡ forceRow m (plannedNumbers X t D) =
+      fun-ext (λ k. ap (λ (r : Row). r .force) (row-is is snap k)) ∙ ap (forceRow m) (sym (numbers-are X t D h)) in
+      subst (λ (row : ℕ → Float). RowsIn (N t + 2) row old new) same (rows-in X t D h (carried is snap) 2 l ran)

@@ -11,8 +11,8 @@ use lib.Ieee.{Float, nan, inf, fin, binary64, unlike, up, down, round, sum, add,
 use lib.Ieee.Fits.{up-pos, down-pos}
 use lib.Ieee.Scale.{round-same}
 use lib.Ieee.Positive.{first-pos}
-use Rattle.planner.specs.Direction.{signed}
-use Rattle.motion.specs.ForceRows.Exact.{IsFraction, IsWhole, IsHalf, IsRounded}
+use Rattle.planner.specs.Quantities.{signed}
+use Rattle.motion.specs.ForceRows.Claims.{IsFraction, IsWhole, IsHalf, IsRounded}
 use Rattle.motion.proofs.ForceRows.SignedLaws.{size-signed, signed-product, quotient-sign}
 use Rattle.motion.proofs.ForceRows.SignedSums.{signed-sum, sum-scaled}
 

@@ -8,8 +8,8 @@ use lib.Dec.{ltb, lit<}
 use lib.IntN.{_+ℤ_, +ℤ-comm}
 use lib.Ieee.{binary64, round, sum}
 use lib.Ieee.Scale.{round-same}
-use Rattle.planner.specs.Direction.{signed}
-use Rattle.motion.specs.ForceRows.Exact.{IsRounded}
+use Rattle.planner.specs.Quantities.{signed}
+use Rattle.motion.specs.ForceRows.Claims.{IsRounded}
 use Rattle.motion.proofs.ForceRows.SignedLaws.{alike-sum, unlike-sum, zero-sign}
 
 alike-rounded : (s : Bool) (a b c : ℕ) → IsRounded (round binary64 s (a + b) c) (signed s a +ℤ signed s b) c

@@ -100,15 +100,15 @@ abbrev pub bound : ℕ → ℕ → Float
 bound q j = fin false q (pos j)
 
 -- A float holds this whole number.
-abbrev pub held : ℕ → ℕ → Bool
-held q j = ltb q (2 ^ 53) && leb j 900
+abbrev pub representable : ℕ → ℕ → Bool
+representable q j = ltb q (2 ^ 53) && leb j 900
 
 ⪯-bound : (x : Float) (q j : ℕ) → HasValue x false (q * 2 ^ j) 1 → x ⪯ bound q j
 ⪯-bound nan q j h = absurd h
 ⪯-bound (inf s) q j h = absurd h
 ⪯-bound (fin s m e) q j h = record { is-finite = tt; size-le = le-of-eq (h .1) }
 
-pub round-bound : (s : Bool) (a b q j : ℕ) → 0 < b → a ≤ q * 2 ^ j * b → T (held q j) → round binary64 s a b ⪯ bound q j
+pub round-bound : (s : Bool) (a b q j : ℕ) → 0 < b → a ≤ q * 2 ^ j * b → T (representable q j) → round binary64 s a b ⪯ bound q j
 round-bound s a b q j B l h =
     let small = ltb→lt q (2 ^ 53) (and-l (ltb q (2 ^ 53)) (leb j 900) h) in
     let near : 53 + (j + 1074) ≤ 2098 = omega (arith, leb→le j 900 (and-r (ltb q (2 ^ 53)) (leb j 900) h)) in

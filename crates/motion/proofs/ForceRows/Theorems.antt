@@ -1,46 +1,44 @@
--- The claims of specs/ForceRows/Claims.antt. They rest on the rules (planner), on the laws of the profile (profile)
+-- The claims on exactness of specs/ForceRows/Claims.antt, and that minus zeros change nothing. They rest on the rules (planner), on the laws of the profile (profile)
 -- and on the promise of the entry alone.
 use mathlib.Core.Bool.{Bool, true, false, not}
+use mathlib.Core.List.{List}
 use mathlib.Core.Path.{_≡_, refl, sym, ap, subst, _∙_}
 use Prim.Native.Nat.{ℕ, _*_, _<_}
 use lib.Dec.{T, lit<}
 use lib.IntN.{ℤ, pos, natAbs}
 use lib.Ieee.{Float, fin, up, down, eq}
 use lib.Ieee.Positive.{positive, value-pos}
-use Rattle.planner.specs.Direction.{signed}
-use Rattle.planner.specs.Accepted.{Accepted}
+use Rattle.planner.specs.Quantities.{signed}
+use Rattle.planner.specs.Result.{Result}
+use Rattle.planner.specs.Claims.{Accepted}
+use Rattle.planner.specs.declared.Move.{Move}
+use Rattle.planner.proofs.PlannedFacts.{rule-facts}
 use Rattle.motion.specs.ForceRows.Machine.{Machine, plusZero, asRead, machineAsRead}
-use Rattle.motion.specs.ForceRows.Doubled.{Doubled, cast}
-use Rattle.motion.specs.ForceRows.Formula.{sumInU, q1, q2, q3, q4, weightedSum}
-use Rattle.motion.specs.ForceRows.Exact.{IsWhole, inWholes, Within53}
+use Rattle.motion.specs.ForceRows.Doubled.{Doubled}
+use Rattle.motion.specs.ForceRows.Force.{sumInU, q1, q2, q3, q4, weightedSum}
+use Rattle.motion.specs.ForceRows.Claims.{IsWhole, inWholes, Within53, HalfSumClaim, RigidClaim}
 use Rattle.motion.specs.Inner.Rows.{Castable}
-use Rattle.motion.specs.ForceRows.Table.{rowNumbers, force, FillsForce}
-use Rattle.motion.specs.ForceRows.Claims.{CastClaim, HalfSumClaim, RigidClaim, SameButZero, same, minus, SameButZeros, MinusZeroClaim}
-use Rattle.motion.proofs.EntryLaws.{entered-rule, within-range, numbers-are}
+use Rattle.motion.specs.Tables.{rowNumbers, force, FillsForce}
+use Rattle.motion.proofs.EntryLaws.{within-range, numbers-are}
 use Rattle.motion.proofs.FillLaws.{filled-row}
+use Rattle.motion.proofs.AnswerLaws.{one-table-outcome}
 use Rattle.motion.proofs.ForceRows.DoubledLaws as doubled
-use Rattle.motion.proofs.ForceRows.WholeFloats.{cast-exact, read-whole-machine}
+use Rattle.motion.proofs.ForceRows.WholeFloats.{read-whole-machine}
 use Rattle.motion.proofs.ForceRows.MachineLaws.{in-range, stiffness-positive}
 use Rattle.motion.proofs.ForceRows.RoundedLaws.{by-form}
 use Rattle.motion.proofs.ForceRows.Exactness.{u-exact, rigid-exact}
 
-pub rows-castable : {X : ℤ} {V₀ A₀ J₀ S₀ : ℕ} → Accepted X V₀ A₀ J₀ S₀ → (k : ℕ) → Castable (rowNumbers X V₀ A₀ J₀ S₀ k)
-rows-castable {X} h k =
-    let p = entered-rule h in
-    let w = within-range p in
-    subst (λ (w : ℕ → Doubled ℤ). Castable (w k)) (sym (doubled.numbers-are X _ _ _ _ _ w) ∙ numbers-are p)
-    (doubled.castable X _ _ _ _ _ w k)
-
-pub casts-exact : CastClaim
-unfolding cast
-casts-exact X V₀ A₀ J₀ S₀ h k =
-    let c = rows-castable h k in
-    record { d2 = cast-exact _ (c .d2); j2 = cast-exact _ (c .j2); a2 = cast-exact _ (c .a2); v2 = cast-exact _ (c .v2) }
+pub rows-castable : {m : Move} → Accepted m → (k : ℕ) → Castable (rowNumbers m k)
+rows-castable {m} h k =
+    let f = rule-facts m h in
+    let w = within-range f in
+    subst (λ (w : ℕ → Doubled ℤ). Castable (w k)) (sym (doubled.numbers-are (m .displacement) _ _ w) ∙ numbers-are f)
+    (doubled.castable (m .displacement) _ _ w k)
 
 pub u-is-half : HalfSumClaim
 unfolding Within53 inWholes sumInU weightedSum q1 q2 q3 q4
-u-is-half X V₀ A₀ J₀ S₀ h m whole is k within =
-    u-exact (machineAsRead m) whole (rowNumbers X V₀ A₀ J₀ S₀) k (read-whole-machine is) (rows-castable h k) within
+u-is-half m h machine whole is k within =
+    u-exact (machineAsRead machine) whole (rowNumbers m) k (read-whole-machine is) (rows-castable h k) within
 
 -- a whole number above 0
 above-zero : {x : Float} {z : ℤ} → T (positive x) → IsWhole x z → (z ≡ pos (natAbs z)) × (0 < natAbs z)
@@ -57,13 +55,27 @@ above-zero p h = by-form (λ x z. T (positive x) → (z ≡ pos (natAbs z)) × (
 
 pub rigid-row : RigidClaim
 unfolding FillsForce force Within53 inWholes sumInU weightedSum q1 q2 q3 q4
-rigid-row X V₀ A₀ J₀ S₀ h m whole is range rigid old new rows room filled k l within =
-    let row = filled-row (entered-rule h) room (ap not range, tt) filled plusZero k l in
+rigid-row m h machine whole is range rigid old new rows room filled k l within =
+    let row = filled-row h room (ap not range, tt) filled plusZero k l in
     let read = read-whole-machine is in
-    let c = above-zero (stiffness-positive (machineAsRead m) (in-range (machineAsRead m) range)) (read .c) in
-    rw row (rigid-exact (machineAsRead m) whole (rowNumbers X V₀ A₀ J₀ S₀) k read (rows-castable h k) within rigid (c .0) (c .1))
+    let c = above-zero (stiffness-positive (machineAsRead machine) (in-range (machineAsRead machine) range)) (read .c) in
+    rw row (rigid-exact (machineAsRead machine) whole (rowNumbers m) k read (rows-castable h k) within rigid (c .0) (c .1))
 
--- both zeros are read alike
+abbrev minusZero : Float
+minusZero = fin true 0 (pos 0)
+
+pub data SameButZero : Float → Float → Type 0 where
+  same : (x : Float) → SameButZero x x
+  minus : SameButZero minusZero plusZero
+
+pub record SameButZeros (m m′ : Machine Float) : Type 0 where
+  pub m1 : SameButZero (m .m1) (m′ .m1)
+  pub m2 : SameButZero (m .m2) (m′ .m2)
+  pub k1 : SameButZero (m .k1) (m′ .k1)
+  pub k2 : SameButZero (m .k2) (m′ .k2)
+  pub k12 : SameButZero (m .k12) (m′ .k12)
+  pub c : SameButZero (m .c) (m′ .c)
+
 read-alike : {x y : Float} → SameButZero x y → asRead x ≡ asRead y
 unfolding asRead eq
 read-alike (same x) = refl
@@ -81,8 +93,14 @@ machines-alike m m′ h = λ i.
       c = read-alike (h .c) i;
     }
 
-pub minus-zeros : MinusZeroClaim
+-- "Minus zero is read as plus zero": for every move, a machine with minus zeros gives the outcome and the table of the same machine with
+-- plus zeros.
+pub minus-zeros :
+    (m : Move) (machine machine′ : Machine Float)
+    → SameButZeros machine machine′
+    → (old new new′ : List Float) (rows rows′ : Result ℕ ℕ)
+    → FillsForce m machine old rows new
+    → FillsForce m machine′ old rows′ new′
+    → (rows ≡ rows′) × (new ≡ new′)
 unfolding FillsForce force
-minus-zeros X V₀ A₀ J₀ S₀ m m′ alike old new new′ rows rows′ h l =
-    let first = rw (machines-alike m m′ alike) at h in
-    (first .outcome-is ∙ sym (l .outcome-is), first .table-is ∙ sym (l .table-is))
+minus-zeros m machine machine′ alike old new new′ rows rows′ h l = one-table-outcome (rw (machines-alike machine machine′ alike) at h) l

@@ -13,10 +13,10 @@ use lib.Ieee.{Float, fin, binary64, up, down, round, add, mul, ofInt, eq}
 use lib.Ieee.Fits.{down-pos}
 use lib.Ieee.Exact.{HasValue, round-exact}
 use lib.Ieee.Back.{round-whole}
-use Rattle.planner.specs.Direction.{signed}
+use Rattle.planner.specs.Quantities.{signed}
 use Rattle.motion.specs.ForceRows.Machine.{Machine, plusZero, asRead, machineAsRead}
 use Rattle.motion.specs.ForceRows.Force.{half}
-use Rattle.motion.specs.ForceRows.Exact.{IsFraction, IsWhole, IsHalf, IsRounded, IsWholeMachine}
+use Rattle.motion.specs.ForceRows.Claims.{IsFraction, IsWhole, IsHalf, IsRounded, IsWholeMachine}
 use Rattle.motion.proofs.ForceRows.SignedLaws.{size-signed, signed-zero}
 use Rattle.motion.proofs.ForceRows.RoundedLaws.{by-form, cast-rounded, sum-rounded, product-rounded}
 

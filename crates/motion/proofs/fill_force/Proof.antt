@@ -2,8 +2,9 @@
 use borrow.Author.Needs.{needs}
 use mir.Syntax.{w64}
 use mir.Facts.{toZ-ofZ}
-use Rattle.motion.specs.ForceRows.Table.{FillsForce}
-use Rattle.motion.proofs.EntryLaws.{entered, not-planned, within-range, rows-are, force-is}
+use Rattle.motion.specs.Tables.{FillsForce}
+use Rattle.planner.proofs.PlannedFacts.{answer-facts}
+use Rattle.motion.proofs.EntryLaws.{not-planned, within-range, rows-are, force-is}
 use Rattle.motion.proofs.FillLaws.{fills-refused, fills}
 use Rattle.motion.proofs.fill_force.Statement.{statement}
 use Rattle.motion.proofs.fill_force.Tie as tie
@@ -17,17 +18,17 @@ enum-known-answer c = search needs
 enum-told : tie.Need-enum-told
 enum-told c = search needs
 
-unplanned-requires : tie.Need-unplanned-requires
-unplanned-requires c κs = not-planned (c .enum-told .given .1)
+unfilled-requires : tie.Need-unfilled-requires
+unfilled-requires c κs = not-planned (c .enum-told .given .1)
 
 returns : tie.Need-returns
 unfolding FillsForce
-returns c = fills-refused (c .before .before .before .plan-move .ensures) (c .unplanned .ensures)
+returns c = fills-refused (c .before .before .before .plan-move .ensures) (c .unfilled .ensures)
 
 write-rows-requires : tie.Need-write-rows-requires
 write-rows-requires c κs =
     let d = c .before .before .before in
-    within-range (entered (d .before .before .plan-move .ensures) (d .answer .given .1))
+    within-range (answer-facts (d .before .before .plan-move .ensures) (d .answer .given .1))
 
 same-length : tie.Need-same-length
 same-length c = search needs
@@ -39,8 +40,8 @@ returns-2 c =
     let d = w .before .before .before .before in
     let displacement = d .before .before .before .before .args .m .displacement in
     let back = toZ-ofZ {w = w64} {z = displacement} (record { sfits = w .before .struct-told .given .0 .1 }) in
-    let h = entered (d .before .before .plan-move .ensures) (d .answer .given .1) in
-    fills h (rows-are h 2) (force-is h _) (rw back at (w .write-rows .ensures))
+    let h = answer-facts (d .before .before .plan-move .ensures) (d .answer .given .1) in
+    fills (h .accepted) (rows-are h 2) (force-is h _) (rw back at (w .write-rows .ensures))
 
 pub fill-force-spec : {M : Type 1} → statement M
 fill-force-spec =
@@ -49,7 +50,7 @@ fill-force-spec =
     plan-move-requires
     enum-known-answer
     enum-told
-    unplanned-requires
+    unfilled-requires
     returns
     write-rows-requires
     same-length

@@ -2,7 +2,9 @@
 use borrow.Author.Needs.{needs}
 use mir.Syntax.{w64}
 use mir.Facts.{toZ-ofZ}
-use Rattle.motion.proofs.EntryLaws.{PlannedAs, entered, not-planned, within-range}
+use Rattle.planner.specs.Inner.Facts.{PlanFacts}
+use Rattle.planner.proofs.PlannedFacts.{answer-facts}
+use Rattle.motion.proofs.EntryLaws.{not-planned, within-range}
 use Rattle.motion.proofs.SamplingLaws.{sample-refused, sample-past, sample-given}
 use Rattle.motion.proofs.sample_move.Statement.{statement}
 use Rattle.motion.proofs.sample_move.Tie as tie
@@ -16,15 +18,15 @@ enum-known-answer c = search needs
 enum-told : tie.Need-enum-told
 enum-told c = search needs
 
-unplanned-requires : tie.Need-unplanned-requires
-unplanned-requires c κs = not-planned (c .enum-told .given .1)
+unsampled-requires : tie.Need-unsampled-requires
+unsampled-requires c κs = not-planned (c .enum-told .given .1)
 
 returns : tie.Need-returns
-returns c = sample-refused (c .before .before .before .plan-move .ensures) (c .unplanned .ensures)
+returns c = sample-refused (c .before .before .before .plan-move .ensures) (c .unsampled .ensures)
 
 -- the plan that was found
-plan : (c : tie.After-answer) → PlannedAs (c .before .before .before .args .m) (c .answer .given .0 .0)
-plan c = entered (c .before .before .plan-move .ensures) (c .answer .given .1)
+plan : (c : tie.After-answer) → PlanFacts (c .before .before .before .args .m) (c .answer .given .0 .0)
+plan c = answer-facts (c .before .before .plan-move .ensures) (c .answer .given .1)
 
 samples-in-plan-requires : tie.Need-samples-in-plan-requires
 samples-in-plan-requires c κs = within-range (plan (c .before))
@@ -52,7 +54,7 @@ sample-move-spec =
     plan-move-requires
     enum-known-answer
     enum-told
-    unplanned-requires
+    unsampled-requires
     returns
     samples-in-plan-requires
     returns-2

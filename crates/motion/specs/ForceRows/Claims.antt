@@ -1,91 +1,102 @@
--- Document 01, "Force rows": what holds of the rows beyond the promise of the entry. The claims are proved in Theorems.antt and
--- FiniteRows.antt of proofs/ForceRows, and Example.antt there shows that the hypotheses of exactness can be met.
-use mathlib.Core.Bool.{true}
+-- Document 01, "Force rows": where the rows are exact, and that each is finite. The theorems are `u-is-half`, `rigid-row` and `rows-finite`;
+-- `exact-example` shows that the hypotheses of exactness can be met.
+use mathlib.Core.Bool.{Bool, true}
 use mathlib.Core.List.{List}
 use mathlib.Core.Path.{_≡_}
-use Prim.Native.Nat.{ℕ, _+_, _*_, _≤_, _<_}
+use Prim.Native.Nat.{ℕ, _+_, _*_, _^_, _≤_, _<_}
 use lib.Dec.{T}
-use lib.IntN.{ℤ, pos, natAbs}
-use lib.Ieee.{Float}
+use lib.IntN.{ℤ, pos, natAbs, _+ℤ_, _*ℤ_}
+use lib.Ieee.{Float, binary64, round}
+use lib.Ieee.Exact.{HasValue}
 use lib.Ieee.Scale.{finite}
 use lib.ListN.{length, getD}
-use Rattle.planner.specs.Accepted.{Accepted}
-use Rattle.motion.specs.Values as value
-use Rattle.motion.specs.ForceRows.Machine.{Machine, minusZero, plusZero, machineAsRead, machineInRange}
-use Rattle.motion.specs.ForceRows.Doubled.{cast}
-use Rattle.motion.specs.ForceRows.Formula.{wholes, sumInU}
-use Rattle.motion.specs.ForceRows.Force.{u}
-use Rattle.motion.specs.ForceRows.Exact.{IsHalf, IsRounded, IsWholeMachine, IsWholeRow, Within53, expressionOfU}
-use Rattle.motion.specs.Result.{Result}
-use Rattle.motion.specs.ForceRows.Table.{rowNumbers, force, FillsForce}
+use Rattle.planner.specs.Quantities.{signed}
+use Rattle.planner.specs.Result.{Result}
+use Rattle.planner.specs.Outcome.{samplesOf}
+use Rattle.planner.specs.Claims.{Accepted}
+use Rattle.planner.specs.declared.Move.{Move}
+use Rattle.motion.specs.ForceRows.Machine.{Machine, mapMachine, plusZero, machineAsRead, machineInRange}
+use Rattle.motion.specs.ForceRows.Doubled.{Doubled, mapDoubled}
+use Rattle.motion.specs.ForceRows.Force.{Arithmetic, wholes, sumInU, u}
+use Rattle.motion.specs.Tables.{rowNumbers, force, FillsForce}
 
--- The doubled whole numbers of an accepted move are cast exactly.
-abbrev pub CastClaim : Type 0
-CastClaim =
-    (X : ℤ) (V₀ A₀ J₀ S₀ : ℕ)
-    → Accepted X V₀ A₀ J₀ S₀
-    → (k : ℕ)
-    → IsWholeRow (cast (rowNumbers X V₀ A₀ J₀ S₀ k)) (rowNumbers X V₀ A₀ J₀ S₀ k)
+-- The float x is z/n and nothing is lost. Either zero is 0.
+pub record IsFraction (x : Float) (z : ℤ) (n : ℕ) : Type 0 where
+  pub negative : Bool
+  pub size : ℕ
+  pub whole-is : z ≡ signed negative size
+  pub value : HasValue x negative size n
+
+abbrev pub IsWhole : Float → ℤ → Type 0
+IsWhole x z = IsFraction x z 1
+
+abbrev pub IsHalf : Float → ℤ → Type 0
+IsHalf x z = IsFraction x z 2
+
+-- The float x is z/n rounded once. The sign of a zero is left open.
+pub record IsRounded (x : Float) (z : ℤ) (n : ℕ) : Type 0 where
+  pub negative : Bool
+  pub size : ℕ
+  pub whole-is : z ≡ signed negative size
+  pub rounded : x ≡ round binary64 negative size n
+
+-- "the six numbers are whole"
+pub record IsWholeMachine (machine : Machine Float) (whole : Machine ℤ) : Type 0 where
+  pub m1 : IsWhole (machine .m1) (whole .m1)
+  pub m2 : IsWhole (machine .m2) (whole .m2)
+  pub k1 : IsWhole (machine .k1) (whole .k1)
+  pub k2 : IsWhole (machine .k2) (whole .k2)
+  pub k12 : IsWhole (machine .k12) (whole .k12)
+  pub c : IsWhole (machine .c) (whole .c)
+
+-- A formula as it is written, over whole numbers.
+pub data Expression : Type 0 where
+  constant : ℤ → Expression
+  sumOf productOf : Expression → Expression → Expression
+
+abbrev pub expressions : Arithmetic Expression
+expressions = record { _⊞_ = sumOf; _⊠_ = productOf }
+
+unfoldable pub inWholes : Expression → ℤ
+inWholes (constant z) = z
+inWholes (sumOf s t) = inWholes s +ℤ inWholes t
+inWholes (productOf s t) = inWholes s *ℤ inWholes t
+
+-- "every product and partial sum is at most 2^53 in size"
+unfoldable pub Within53 : Expression → Type 0
+Within53 (constant z) = Unit {0}
+Within53 (sumOf s t) = Within53 s × Within53 t × (natAbs (inWholes s +ℤ inWholes t) ≤ 2 ^ 53)
+Within53 (productOf s t) = Within53 s × Within53 t × (natAbs (inWholes s *ℤ inWholes t) ≤ 2 ^ 53)
+
+-- q1 to q4 and the sum in u.
+abbrev pub expressionOfU : Machine ℤ → Doubled ℤ → Expression
+expressionOfU whole w = sumInU expressions (mapMachine constant whole) (mapDoubled constant w)
 
 -- "If the six numbers are whole and every product and partial sum is at most 2^53 in size, then u is exactly half the whole-number sum."
 abbrev pub HalfSumClaim : Type 0
 HalfSumClaim =
-    (X : ℤ) (V₀ A₀ J₀ S₀ : ℕ)
-    → Accepted X V₀ A₀ J₀ S₀
-    → (m : Machine Float) (whole : Machine ℤ)
-    → IsWholeMachine m whole
-    → (k : ℕ)
-    → Within53 (expressionOfU m whole (rowNumbers X V₀ A₀ J₀ S₀ k))
-    → IsHalf (u (machineAsRead m) (rowNumbers X V₀ A₀ J₀ S₀) k) (sumInU wholes whole (rowNumbers X V₀ A₀ J₀ S₀ k))
+    (m : Move) → Accepted m
+    → (machine : Machine Float) (whole : Machine ℤ) → IsWholeMachine machine whole
+    → (k : ℕ) → Within53 (expressionOfU whole (rowNumbers m k))
+    → IsHalf (u (machineAsRead machine) (rowNumbers m) k) (sumInU wholes whole (rowNumbers m k))
 
 -- Hence row k of every table that is filled for a rigid drive is that half-sum divided by c, rounded once.
 abbrev pub RigidClaim : Type 0
 RigidClaim =
-    (X : ℤ) (V₀ A₀ J₀ S₀ : ℕ)
-    → Accepted X V₀ A₀ J₀ S₀
-    → (m : Machine Float) (whole : Machine ℤ)
-    → IsWholeMachine m whole
-    → machineInRange (machineAsRead m) ≡ true
+    (m : Move) → Accepted m
+    → (machine : Machine Float) (whole : Machine ℤ) → IsWholeMachine machine whole
+    → machineInRange (machineAsRead machine) ≡ true
     → whole .k12 ≡ pos 0
-    → (old new : List Float) (rows : Result ℕ)
-    → value.N X V₀ A₀ J₀ S₀ + 2 ≤ length old
-    → FillsForce X V₀ A₀ J₀ S₀ m old rows new
-    → (k : ℕ)
-    → k < value.N X V₀ A₀ J₀ S₀ + 2
-    → Within53 (expressionOfU m whole (rowNumbers X V₀ A₀ J₀ S₀ k))
-    → IsRounded (getD new k plusZero) (sumInU wholes whole (rowNumbers X V₀ A₀ J₀ S₀ k)) (2 * natAbs (whole .c))
+    → (old new : List Float) (o : Result ℕ ℕ)
+    → samplesOf m + 2 ≤ length old
+    → FillsForce m machine old o new
+    → (k : ℕ) → k < samplesOf m + 2 → Within53 (expressionOfU whole (rowNumbers m k))
+    → IsRounded (getD new k plusZero) (sumInU wholes whole (rowNumbers m k)) (2 * natAbs (whole .c))
 
 -- Every row of an accepted move and a machine in range is a finite number: no NaN and no infinity reaches the drive.
 abbrev pub FiniteClaim : Type 0
 FiniteClaim =
-    (X : ℤ) (V₀ A₀ J₀ S₀ : ℕ)
-    → Accepted X V₀ A₀ J₀ S₀
-    → (m : Machine Float)
-    → machineInRange (machineAsRead m) ≡ true
-    → (k : ℕ)
-    → k < value.N X V₀ A₀ J₀ S₀ + 2
-    → T (finite (force X V₀ A₀ J₀ S₀ m k))
-
--- The same number, or minus zero and plus zero.
-pub data SameButZero : Float → Float → Type 0 where
-  same : (x : Float) → SameButZero x x
-  minus : SameButZero minusZero plusZero
-
-pub record SameButZeros (m m′ : Machine Float) : Type 0 where
-  pub m1 : SameButZero (m .m1) (m′ .m1)
-  pub m2 : SameButZero (m .m2) (m′ .m2)
-  pub k1 : SameButZero (m .k1) (m′ .k1)
-  pub k2 : SameButZero (m .k2) (m′ .k2)
-  pub k12 : SameButZero (m .k12) (m′ .k12)
-  pub c : SameButZero (m .c) (m′ .c)
-
--- "Minus zero is read as plus zero": for every move, a machine with minus zeros gives the outcome and the table of the same machine with
--- plus zeros.
-abbrev pub MinusZeroClaim : Type 0
-MinusZeroClaim =
-    (X : ℤ) (V₀ A₀ J₀ S₀ : ℕ) (m m′ : Machine Float)
-    → SameButZeros m m′
-    → (old new new′ : List Float) (rows rows′ : Result ℕ)
-    → FillsForce X V₀ A₀ J₀ S₀ m old rows new
-    → FillsForce X V₀ A₀ J₀ S₀ m′ old rows′ new′
-    → (rows ≡ rows′) × (new ≡ new′)
+    (m : Move) → Accepted m
+    → (machine : Machine Float) → machineInRange (machineAsRead machine) ≡ true
+    → (k : ℕ) → k < samplesOf m + 2
+    → T (finite (force m machine k))

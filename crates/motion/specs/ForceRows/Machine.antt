@@ -1,5 +1,5 @@
 -- Document 01, "Force rows": the machine, and which machines are in range.
-use mathlib.Core.Bool.{Bool, true, false, cond, _&&_}
+use mathlib.Core.Bool.{Bool, false, cond, _&&_}
 use lib.IntN.{pos, negsuc}
 use lib.Ieee.{Float, fin, eq, le}
 use lib.Ieee.Scale.{finite}
@@ -13,12 +13,12 @@ pub record Machine (A : Type 0) : Type 0 where
   pub k12 : A
   pub c : A
 
--- A finite float is a sign, m and e for m·2^e: +0, −0, 2^20 and 2^−20.
+abbrev pub mapMachine : {A B : Type 0} → (A → B) → Machine A → Machine B
+mapMachine f m = record { m1 = f (m .m1); m2 = f (m .m2); k1 = f (m .k1); k2 = f (m .k2); k12 = f (m .k12); c = f (m .c) }
+
+-- A finite float is a sign, m and e for m·2^e: +0, 2^20 and 2^−20.
 abbrev pub plusZero : Float
 plusZero = fin false 0 (pos 0)
-
-abbrev pub minusZero : Float
-minusZero = fin true 0 (pos 0)
 
 abbrev pub most : Float
 most = fin false 1 (pos 20)
@@ -31,15 +31,7 @@ unfoldable pub asRead : Float → Float
 asRead x = cond (eq x plusZero) plusZero x
 
 unfoldable pub machineAsRead : Machine Float → Machine Float
-machineAsRead m =
-    record {
-      m1 = asRead (m .m1);
-      m2 = asRead (m .m2);
-      k1 = asRead (m .k1);
-      k2 = asRead (m .k2);
-      k12 = asRead (m .k12);
-      c = asRead (m .c);
-    }
+machineAsRead = mapMachine asRead
 
 -- "finite, at least 0 and at most 2^20"
 unfoldable pub inRange : Float → Bool

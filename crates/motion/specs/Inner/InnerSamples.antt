@@ -3,7 +3,7 @@ use mathlib.Core.List.{List, _∷_}
 use mathlib.Core.Path.{_≡_}
 use Prim.Native.Nat.{ℕ}
 use lib.IntN.{ℤ}
-use Rattle.profile.specs.Widths.{snapBy}
+use Rattle.profile.specs.Inner.Widths.{snapBy}
 
 -- The inner profile has at k′ with u′ and v′ the snap that the profile of width w around it has at k with u and v.
 pub record SameSnap (w : ℕ) (u v : ℤ) (k : ℕ) (u′ v′ : ℤ) (k′ : ℕ) : Type 0 where

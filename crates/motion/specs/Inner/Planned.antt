@@ -1,69 +1,78 @@
 -- What the functions below the entries need of a plan, and what they give.
-use mathlib.Core.List.{List, _∷_, _++_}
+use mathlib.Core.List.{List, [], _∷_, _++_}
 use mathlib.Core.Path.{_≡_}
 use Prim.Native.Nat.{ℕ, _*_, _^_, _≤_}
 use lib.Dec.{ltb}
 use lib.IntN.{ℤ}
 use lib.ListN.{length, drop}
 use lib.Ieee.{Float}
-use Rattle.planner.specs.Durations.{N, P}
-use Rattle.planner.specs.Outcome.{Check, check, firstRefusal, mostSamples}
-use Rattle.planner.specs.Facts.{Ordered}
+use Rattle.planner.specs.Intervals.{Intervals, N, P}
+use Rattle.planner.specs.Result.{Result, refused, given, Check, check, firstRefusal}
+use Rattle.planner.specs.Outcome.{mostSamples, intervalsIn}
+use Rattle.planner.specs.Inner.Facts.{Ordered}
 use Rattle.planner.specs.declared.Plan.{Plan}
-use Rattle.motion.specs.Direction as direction
-use Rattle.motion.specs.ForceRows.Machine.{Machine, machineAsRead}
-use Rattle.motion.specs.ForceRows.Doubled.{Doubled, upTo, doubled}
-use Rattle.motion.specs.ForceRows.Force.{forceRow}
+use Rattle.motion.specs.Sampling.{valuesAt, sampleOf, IsCount}
 use Rattle.motion.specs.Tables.{rowsFrom, tableOf}
-use Rattle.motion.specs.Result.{Result, refused, given}
-use Rattle.motion.specs.Count.{IsCount}
+use Rattle.motion.specs.ForceRows.Machine.{Machine, machineAsRead}
+use Rattle.motion.specs.ForceRows.Doubled.{Doubled, doubledValues}
+use Rattle.motion.specs.ForceRows.Force.{forceRow}
 use Rattle.motion.specs.declared.Sample.{Sample}
 
--- The intervals follow each other, and the way from the first to the last sample fits, as does the velocity.
-pub record WithinRange (a b c e D : ℕ) : Type 0 where
-  pub ordered : Ordered a b c e
-  pub samples : N a b c e ≤ mostSamples
-  pub reach : D * P a b c e ≤ 2 ^ 60
-  pub speed : D * (a * b * c) ≤ 2 ^ 50
+-- The planner's refusal is passed on.
+pub record PassedOn {A : Type 0} (o : Result ℕ Plan) (p : Result ℕ A) : Type 0 where
+  pub number : ℕ
+  pub refused-by : o ≡ refused number
+  pub refused-with : p ≡ refused number
 
-pub record SampleOf (X : ℤ) (a b c e D k : ℕ) (r : Sample) : Type 0 where
-  pub snap-is : r .snap ≡ direction.snap X a b c e D k
-  pub jerk-is : r .jerk ≡ direction.jerk X a b c e D k
-  pub acceleration-is : r .acceleration ≡ direction.acceleration X a b c e D k
-  pub velocity-is : r .velocity ≡ direction.velocity X a b c e D k
-  pub position-is : r .position ≡ direction.position X a b c e D k
-  pub count-is : IsCount (r .position) (r .count)
+-- The widths of the intervals around a, the outermost first.
+abbrev pub widthsOf : Intervals → List ℕ
+widthsOf t = t .e ∷ t .c ∷ t .b ∷ []
+
+-- The intervals follow each other, and the way from the first to the last sample fits, as does the velocity.
+pub record WithinRange (t : Intervals) (D : ℕ) : Type 0 where
+  pub ordered : Ordered t
+  pub samples : N t ≤ mostSamples
+  pub reach : D * P t ≤ 2 ^ 60
+  pub speed : D * (t .a * t .b * t .c) ≤ 2 ^ 50
+
+module _ (X : ℤ) (t : Intervals) (D : ℕ) where
+  -- The snap as a function of the sample.
+  abbrev pub directedSnap : ℕ → ℤ
+  directedSnap k = valuesAt X t D k .snap
+
+  abbrev pub directedPosition : ℕ → ℤ
+  directedPosition k = valuesAt X t D k .position
+
+  -- The five values at sample k, and the count of the position.
+  pub record IsSample (k : ℕ) (r : Sample) : Type 0 where
+    pub sample-is : r ≡ sampleOf (valuesAt X t D k) (r .count)
+    pub count-is : IsCount (valuesAt X t D k .position) (r .count)
+
+  -- The doubled numbers of a plan's rows.
+  abbrev pub plannedNumbers : ℕ → Doubled ℤ
+  plannedNumbers = doubledValues (N t) (valuesAt X t D)
+
+  abbrev pub plannedForce : Machine Float → ℕ → Float
+  plannedForce machine = forceRow (machineAsRead machine) plannedNumbers
 
 -- The table holds so many rows and keeps every later place.
-pub record RowsIn {E : Type 0} (rows : ℕ) (row : ℕ → E) (old new : List E) : Type 0 where
+pub record RowsIn {A : Type 0} (rows : ℕ) (row : ℕ → A) (old new : List A) : Type 0 where
   pub table-is : new ≡ rowsFrom row 0 rows ++ drop rows old
 
 -- The same where the table has room for the rows, else refusal 8; and the entry's own refusals.
-pub record WritesRows {E : Type 0} (own : List Check) (rows : ℕ) (row : ℕ → E) (old : List E) (o : Result ℕ) (new : List E) : Type 0 where
-  pub outcome-is : o ≡ firstRefusal refused (check 8 (ltb (length old) rows) ∷ own) (given rows)
+pub record WritesRows {A : Type 0} (own : List Check) (rows : ℕ) (row : ℕ → A) (old : List A) (o : Result ℕ ℕ) (new : List A) : Type 0 where
+  pub outcome-is : o ≡ firstRefusal (check 8 (ltb (length old) rows) ∷ own) (given rows)
   pub table-is : new ≡ tableOf o (rowsFrom row 0 rows) old
-
--- The doubled numbers of a plan's rows.
-abbrev pub plannedNumbers : ℤ → (a b c e D : ℕ) → ℕ → Doubled ℤ
-plannedNumbers X a b c e D =
-    doubled
-    (upTo (N a b c e) (direction.snap X a b c e D))
-    (upTo (N a b c e) (direction.jerk X a b c e D))
-    (upTo (N a b c e) (direction.acceleration X a b c e D))
-    (upTo (N a b c e) (direction.velocity X a b c e D))
-
-abbrev pub plannedForce : ℤ → (a b c e D : ℕ) → Machine Float → ℕ → Float
-plannedForce X a b c e D m = forceRow (machineAsRead m) (plannedNumbers X a b c e D)
 
 -- The same of a plan as the code has it.
 abbrev pub PlanInRange : Plan → Type 0
-PlanInRange x = WithinRange (x .a) (x .b) (x .c) (x .e) (x .snap)
+PlanInRange x = WithinRange (intervalsIn x) (x .snap)
 
 abbrev pub samplesIn : Plan → ℕ
-samplesIn x = N (x .a) (x .b) (x .c) (x .e)
+samplesIn x = N (intervalsIn x)
 
 abbrev pub positionsIn : ℤ → Plan → ℕ → ℤ
-positionsIn X x = direction.position X (x .a) (x .b) (x .c) (x .e) (x .snap)
+positionsIn X x = directedPosition X (intervalsIn x) (x .snap)
 
 abbrev pub numbersIn : ℤ → Plan → ℕ → Doubled ℤ
-numbersIn X x = plannedNumbers X (x .a) (x .b) (x .c) (x .e) (x .snap)
+numbersIn X x = plannedNumbers X (intervalsIn x) (x .snap)

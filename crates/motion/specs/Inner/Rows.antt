@@ -5,10 +5,10 @@ use lib.IntN.{ℤ, pos, natAbs, _+ℤ_, _*ℤ_}
 use lib.Ieee.{Float, binary64, mul, div}
 use Rattle.motion.specs.ForceRows.Machine.{Machine, plusZero}
 use Rattle.motion.specs.ForceRows.Doubled.{Doubled, cast}
-use Rattle.motion.specs.ForceRows.Formula.{floats, q1, q2, q3, q4, weightedSum}
-use Rattle.motion.specs.ForceRows.Force.{DriveKind, rigid, filtered, half, driveOf, filteredForce}
-use Rattle.motion.specs.Answer.{driveKind}
+use Rattle.motion.specs.ForceRows.Force.{floats, q1, q2, q3, q4, weightedSum, DriveKind, rigid, filtered, half, driveOf, filteredForce}
 use Rattle.motion.specs.declared.force.coefficients.Coefficients.{Coefficients}
+use Rattle.motion.specs.declared.force.drive.Drive.{Drive}
+use Rattle.motion.specs.declared.force.drive.Drive.the-variants.{Rigid, Filtered}
 use Rattle.motion.specs.declared.force.feedforward.Feedforward.{Feedforward}
 use Rattle.motion.specs.declared.force.rows.Row.{Row}
 use Rattle.motion.specs.declared.force.rows.RowState.{RowState}
@@ -60,6 +60,11 @@ uBy q w = mul binary64 (weightedSum floats (q .q1) (q .q2) (q .q3) (q .q4) (cast
 unfoldable pub forceBy : DriveKind → (u : Float) → (previous : Row) → Float
 forceBy (rigid stiffness) u previous = div binary64 u stiffness
 forceBy (filtered alpha beta) u previous = filteredForce alpha beta (previous .force) u (previous .u)
+
+-- The checked drive.
+abbrev pub driveKind : Drive → DriveKind
+driveKind (Rigid stiffness) = rigid stiffness
+driveKind (Filtered alpha beta) = filtered alpha beta
 
 pub record IsFeedforward (m : Machine Float) (x : Feedforward) : Type 0 where
   pub coefficients : AreCoefficients m (x .q)

@@ -7,11 +7,11 @@ use lib.ListN.{length, set}
 use Rattle.motion.specs.declared.state.State.{State}
 use Rattle.motion.specs.Inner.Steps.{stepped, StepFits}
 
--- How a table with elements E is written: from what is carried along, S, the step over a snap, the row that is stored before it, the
+-- How a table with elements A is written: from what is carried along, S, the step over a snap, the row that is stored before it, the
 -- row's place, and when the step can be made.
-pub record Writer (S E : Type 0) : Type 1 where
+pub record Writer (S A : Type 0) : Type 1 where
   pub step : S → ℤ → S
-  pub row : S → E
+  pub row : S → A
   pub place : S → ℕ
   pub Fits : S → ℤ → Type 0
   pub next-place : (s : S) (x : ℤ) → place (step s x) ≡ place s + 1
@@ -21,14 +21,14 @@ abbrev pub positionWriter : Writer State ℤ
 positionWriter =
     record { step = stepped; row = λ s. s .position; place = λ s. s .sample; Fits = StepFits; next-place = λ s x. refl }
 
-module _ {S E : Type 0} (w : Writer S E) where
+module _ {S A : Type 0} (w : Writer S A) where
   -- What is carried along after a step for each snap of the list.
   unfoldable pub after : List ℤ → S → S
   after [] s = s
   after (x ∷ xs) s = after xs (w .step s x)
 
   -- The table after the row before each of these steps was stored at its place.
-  unfoldable pub stored : List ℤ → S → List E → List E
+  unfoldable pub stored : List ℤ → S → List A → List A
   stored [] s table = table
   stored (x ∷ xs) s table = stored xs (w .step s x) (set table (w .place s) (w .row s))
 
@@ -42,6 +42,6 @@ module _ {S E : Type 0} (w : Writer S E) where
     pub fits : StepsFit xs s
 
   -- The run was made.
-  pub record Ran (xs : List ℤ) (s : S) (old new : List E) (end : S) : Type 0 where
+  pub record Ran (xs : List ℤ) (s : S) (old new : List A) (end : S) : Type 0 where
     pub table-is : new ≡ stored xs s old
     pub end-is : end ≡ after xs s

@@ -2,10 +2,10 @@
 use mathlib.Core.Path.{_≡_}
 use Prim.Native.Nat.{ℕ}
 use lib.IntN.{ℤ, pos, negℤ}
-use Rattle.planner.specs.Direction.{along}
+use Rattle.planner.specs.Quantities.{along}
 use Rattle.motion.specs.declared.snap.Levels.{Levels}
 
--- D in the direction of X, and against it.
+-- D in the direction of X, in segments with +, and against it in those with −.
 pub record AreLevels (X : ℤ) (D : ℕ) (levels : Levels) : Type 0 where
-  pub up-is : levels .up ≡ along X (pos D)
-  pub down-is : levels .down ≡ negℤ (along X (pos D))
+  pub positive-is : levels .positive ≡ along X (pos D)
+  pub negative-is : levels .negative ≡ negℤ (along X (pos D))

@@ -3,7 +3,7 @@ use Prim.Native.Nat.{ℕ, _+_, _<_}
 use lib.IntN.{ℤ, pos, _+ℤ_}
 use mir.Syntax.{w64}
 use mir.Val.{Fits, SFits}
-use Rattle.profile.specs.Sums.{sums}
+use Rattle.profile.specs.Inner.Repeated.{sums}
 use Rattle.motion.specs.declared.state.State.{State}
 
 abbrev pub stepped : State → ℤ → State

@@ -2,7 +2,7 @@
 use crate::Machine;
 ghost use mathlib.Core.Path.{_≡_};
 ghost use Rattle.motion.specs.ForceRows.Force.{driveOf};
-ghost use Rattle.motion.specs.Answer.{driveKind};
+ghost use Rattle.motion.specs.Inner.Rows.{driveKind};
 
 // Rigid with its stiffness, or filtered with the paper's alpha and beta.
 pub(crate) enum Drive {

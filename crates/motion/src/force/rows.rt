@@ -11,9 +11,8 @@ use crate::state::State;
 use crate::state::at_rest;
 use crate::state::step;
 ghost use mathlib.Core.Path.{_≡_};
-ghost use Rattle.motion.specs.Answer.{driveKind};
 ghost use Rattle.motion.specs.Inner.Steps.{StepFits};
-ghost use Rattle.motion.specs.Inner.Rows.{Castable, doubledBy, doubledNumbers, uBy, forceBy, rowIn, firstRow, advanced};
+ghost use Rattle.motion.specs.Inner.Rows.{Castable, driveKind, doubledBy, doubledNumbers, uBy, forceBy, rowIn, firstRow, advanced};
 
 // The paper's u and the force of a row.
 pub(crate) struct Row {

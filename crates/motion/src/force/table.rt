@@ -16,7 +16,7 @@ ghost use mathlib.Core.List.{[], _∷_};
 ghost use Prim.Native.Nat.{_+_, _≤_};
 ghost use Rattle.motion.specs.ForceRows.Machine.{machineAsRead};
 ghost use Rattle.motion.specs.ForceRows.Force.{forceRow};
-ghost use Rattle.motion.specs.ForceRows.Table.{machineCheck};
+ghost use Rattle.motion.specs.Tables.{machineCheck};
 ghost use Rattle.motion.specs.Answer.{machineOf, tableOutcome};
 ghost use Rattle.motion.specs.Inner.Planned.{PlanInRange, samplesIn, numbersIn, RowsIn, WritesRows};
 

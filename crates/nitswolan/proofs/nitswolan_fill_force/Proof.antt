@@ -1,6 +1,5 @@
 -- `nitswolan_fill_force` meets its contract: its fields hold the outcome of `fill_force`.
 use borrow.Author.Needs.{needs}
-use Rattle.nitswolan.proofs.HoldsLaws.{whole}
 use Rattle.nitswolan.proofs.nitswolan_fill_force.Statement.{statement}
 use Rattle.nitswolan.proofs.nitswolan_fill_force.Tie as tie
 
@@ -14,8 +13,7 @@ same-length : tie.Need-same-length
 same-length c = search needs
 
 returns : tie.Need-returns
-returns c =
-    (rw (c .table-result .ensures .read-is) (c .before .before .before .fill-force .ensures), whole (c .table-result .ensures))
+returns c = record { outcome = _; promised = c .before .before .before .fill-force .ensures; fields-are = c .table-result .ensures }
 
 pub nitswolan-fill-force-spec : {M : Type 1} → statement M
 nitswolan-fill-force-spec =

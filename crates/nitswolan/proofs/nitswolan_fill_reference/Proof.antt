@@ -1,6 +1,5 @@
 -- `nitswolan_fill_reference` meets its contract: its fields hold the outcome of `fill_reference`.
 use borrow.Author.Needs.{needs}
-use Rattle.nitswolan.proofs.HoldsLaws.{whole}
 use Rattle.nitswolan.proofs.nitswolan_fill_reference.Statement.{statement}
 use Rattle.nitswolan.proofs.nitswolan_fill_reference.Tie as tie
 
@@ -14,8 +13,7 @@ same-length : tie.Need-same-length
 same-length c = search needs
 
 returns : tie.Need-returns
-returns c =
-    (rw (c .table-result .ensures .read-is) (c .before .before .fill-reference .ensures), whole (c .table-result .ensures))
+returns c = record { outcome = _; promised = c .before .before .fill-reference .ensures; fields-are = c .table-result .ensures }
 
 pub nitswolan-fill-reference-spec : {M : Type 1} → statement M
 nitswolan-fill-reference-spec =

@@ -1,6 +1,5 @@
 -- `nitswolan_plan_move` meets its contract: its fields hold the outcome of `plan_move`.
 use borrow.Author.Needs.{needs}
-use Rattle.nitswolan.proofs.HoldsLaws.{whole}
 use Rattle.nitswolan.proofs.PlanLaws.{samples-fit}
 use Rattle.nitswolan.proofs.nitswolan_plan_move.Statement.{statement}
 use Rattle.nitswolan.proofs.nitswolan_plan_move.Tie as tie
@@ -12,8 +11,7 @@ plan-result-requires : tie.Need-plan-result-requires
 plan-result-requires c κs = samples-fit _ (c .plan-move .ensures)
 
 returns : tie.Need-returns
-returns c =
-    (rw (c .plan-result .ensures .read-is) (c .before .plan-move .ensures), whole (c .plan-result .ensures))
+returns c = record { outcome = _; promised = c .before .plan-move .ensures; fields-are = c .plan-result .ensures }
 
 pub nitswolan-plan-move-spec : {M : Type 1} → statement M
 nitswolan-plan-move-spec = tie.close (tie.spec plan-move-requires plan-result-requires returns)

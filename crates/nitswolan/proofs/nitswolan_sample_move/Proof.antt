@@ -1,6 +1,5 @@
 -- `nitswolan_sample_move` meets its contract: its fields hold the outcome of `sample_move`.
 use borrow.Author.Needs.{needs}
-use Rattle.nitswolan.proofs.HoldsLaws.{whole}
 use Rattle.nitswolan.proofs.nitswolan_sample_move.Statement.{statement}
 use Rattle.nitswolan.proofs.nitswolan_sample_move.Tie as tie
 
@@ -11,8 +10,7 @@ sample-result-requires : tie.Need-sample-result-requires
 sample-result-requires c κs = search needs
 
 returns : tie.Need-returns
-returns c =
-    (rw (c .sample-result .ensures .read-is) (c .before .sample-move .ensures), whole (c .sample-result .ensures))
+returns c = record { outcome = _; promised = c .before .sample-move .ensures; fields-are = c .sample-result .ensures }
 
 pub nitswolan-sample-move-spec : {M : Type 1} → statement M
 nitswolan-sample-move-spec =

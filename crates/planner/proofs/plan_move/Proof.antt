@@ -10,8 +10,10 @@ use mir.Facts.{toZ-ofZ}
 use lib.IntN.{natAbs}
 use lib.ListN.{drop}
 use Rattle.planner.specs.Quantities.{distance, unitsPerCount}
-use Rattle.planner.specs.Outcome.{Outcome, outOfRange, checks, rulePlan, Plans}
+use Rattle.planner.specs.Result.{Result, given}
+use Rattle.planner.specs.Outcome.{outOfRange, checks, distanceOf, intervalsOf, samplesOf, planOf, Plans}
 use Rattle.planner.specs.declared.Move.{Move}
+use Rattle.planner.specs.declared.Plan.{Plan}
 use Rattle.planner.specs.Inner.Capped.{planWithin}
 use Rattle.planner.proofs.RefusalLaws.{Gives, stop, skip, plans, bound-in-range}
 use Rattle.planner.proofs.plan_move.Statement.{statement}
@@ -43,11 +45,7 @@ snap c = sym (c .before .out-of-range4 .ensures) ∙ c .if6 .left
 
 -- past k checks, what the others give of the rule's plan is the outcome
 Past : ℕ → Move → Type 0
-Past k m =
-    (p : Outcome)
-    → Gives (drop k (checks (m .displacement) (m .velocity) (m .acceleration) (m .jerk) (m .snap)))
-    (rulePlan (distance (m .displacement)) (m .velocity) (m .acceleration) (m .jerk) (m .snap)) p
-    → Plans (m .displacement) (m .velocity) (m .acceleration) (m .jerk) (m .snap) p
+Past k m = (p : Result ℕ Plan) → Gives (drop k (checks m)) (given (planOf (distanceOf m) (intervalsOf m))) p → Plans m p
 
 past-1 : (c : tie.Else1) → Past 1 (c .before .before .before .args .m)
 unfolding Past
@@ -128,7 +126,7 @@ plan-in-range-requires c κs =
     }
 
 returns-7 : tie.Need-returns-7
-unfolding Past planWithin
+unfolding Past planWithin intervalsOf samplesOf
 returns-7 c =
     let at-size = c .before .before .before .before .before .before .before .before .before .before .before in
     past-6 (c .before) _ (record { is = rw (scaled at-size) at (c .plan-in-range .ensures) })

@@ -3,10 +3,12 @@ use mathlib.Core.Path.{_≡_}
 use mathlib.Core.List.{[], _∷_}
 use Prim.Native.Nat.{ℕ, _*_, _^_, _≤_, _<_, min}
 use lib.Dec.{ltb}
-use Rattle.planner.specs.Intervals.{a, b, c, e}
-use Rattle.planner.specs.Durations.{N}
-use Rattle.planner.specs.Outcome.{Outcome, refused, check, firstRefusal, mostSamples, samplesOf, rulePlan}
-use Rattle.planner.specs.Accepted.{BoundInRange}
+use Rattle.planner.specs.Intervals.{Intervals, N, intervalsBy}
+use Rattle.planner.specs.Result.{Result, given, check, firstRefusal}
+use Rattle.planner.specs.Outcome.{mostSamples, planOf}
+use Rattle.planner.specs.Claims.{BoundInRange}
+use Rattle.planner.specs.declared.Plan.{Plan}
+use Rattle.planner.specs.declared.intervals.Intervals as code
 
 -- The figures of a move in range, by its distance.
 pub record Figures (W V₀ A₀ J₀ S₀ : ℕ) : Type 0 where
@@ -27,17 +29,19 @@ pub record Carried (bound k n r : ℕ) : Type 0 where
   pub value : r ≡ min bound (k * n)
   pub in-range : BoundInRange r
 
+-- The four numbers that the code found.
+abbrev pub found : code.Intervals → Intervals
+found i = record { a = i .a; b = i .b; c = i .c; e = i .e }
+
 -- The four numbers are the rule's intervals where they make fewer than cap samples; otherwise the rule's make cap or more too.
-pub record IntervalsAgree (cap W V₀ A₀ J₀ S₀ ra rb rc re : ℕ) : Type 0 where
-  pub samples : min cap (N ra rb rc re) ≡ min cap (samplesOf W V₀ A₀ J₀ S₀)
-  pub same-a : N ra rb rc re < cap → ra ≡ a W V₀ A₀ J₀ S₀
-  pub same-b : N ra rb rc re < cap → rb ≡ b W V₀ A₀ J₀ S₀
-  pub same-c : N ra rb rc re < cap → rc ≡ c W V₀ A₀ J₀ S₀
-  pub same-e : N ra rb rc re < cap → re ≡ e W V₀ A₀ J₀ S₀
-  pub positive : (1 ≤ ra) × (1 ≤ rb) × (1 ≤ rc) × (1 ≤ re)
-  pub at-most : (ra ≤ cap) × (rb ≤ cap) × (rc ≤ 2 * cap) × (re ≤ 4 * cap)
+pub record IntervalsAgree (cap W V₀ A₀ J₀ S₀ : ℕ) (t : Intervals) : Type 0 where
+  pub samples : min cap (N t) ≡ min cap (N (intervalsBy W V₀ A₀ J₀ S₀))
+  pub same : N t < cap → t ≡ intervalsBy W V₀ A₀ J₀ S₀
+  pub positive : (1 ≤ t .a) × (1 ≤ t .b) × (1 ≤ t .c) × (1 ≤ t .e)
+  pub at-most : (t .a ≤ cap) × (t .b ≤ cap) × (t .c ≤ 2 * cap) × (t .e ≤ 4 * cap)
 
 -- What is left of the rule where refusals 1 to 6 do not apply.
-unfoldable pub planWithin : (W V₀ A₀ J₀ S₀ : ℕ) → Outcome
+unfoldable pub planWithin : (W V₀ A₀ J₀ S₀ : ℕ) → Result ℕ Plan
 planWithin W V₀ A₀ J₀ S₀ =
-    firstRefusal refused (check 7 (ltb mostSamples (samplesOf W V₀ A₀ J₀ S₀)) ∷ []) (rulePlan W V₀ A₀ J₀ S₀)
+    let t = intervalsBy W V₀ A₀ J₀ S₀ in
+    firstRefusal (check 7 (ltb mostSamples (N t)) ∷ []) (given (planOf W t))

@@ -1,21 +1,18 @@
--- The search. All ten properties have one form: t ≤ k·n·(u+n)^d, with k a bound, t what must be reached, and u the intervals before.
-use mathlib.Core.Path.{_≡_}
-use mathlib.Core.Bool.{Bool, true, false}
+-- The search. All ten searches have one form: k·n·(u+n)^d is to reach t, with k a bound, t the target, and u the intervals before.
 use Prim.Native.Nat.{ℕ, _+_, _*_, _^_, _≤_, _<_}
-use lib.Dec.{leb}
 
 abbrev pub growth : (u d n : ℕ) → ℕ
 growth u d n = n * (u + n) ^ d
 
-abbrev pub reaches : (k u d t n : ℕ) → Bool
-reaches k u d t n = leb t (k * growth u d n)
+abbrev pub scaled : (k u d n : ℕ) → ℕ
+scaled k u d n = k * growth u d n
 
--- r is the least number from lo on with the property p, or hi where none below hi has it.
-pub record LeastWithin (p : ℕ → Bool) (lo hi r : ℕ) : Type 0 where
+-- r is the least number from lo on that reaches t, or hi where none below hi does.
+pub record LeastWithin (t : ℕ) (reach : ℕ → ℕ) (lo hi r : ℕ) : Type 0 where
   pub low : lo ≤ r
   pub high : r ≤ hi
-  pub before : (n : ℕ) → lo ≤ n → n < r → p n ≡ false
-  pub here : r < hi → p r ≡ true
+  pub before : (n : ℕ) → lo ≤ n → n < r → reach n < t
+  pub here : r < hi → t ≤ reach r
 
 -- The arguments of a search: small enough that no product leaves 64 bits. The span ends at four times the cap at most.
 pub record SearchArgs (cap u d lo hi : ℕ) : Type 0 where

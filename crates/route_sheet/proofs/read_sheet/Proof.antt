@@ -2,7 +2,7 @@
 use borrow.Author.Needs.{needs}
 use borrow.Author.Tests.{lt-ltb, le-ltb}
 use lib.ListN.{length}
-use Rattle.route_sheet.specs.Result.{mostBytes}
+use Rattle.route_sheet.specs.Beginning.{mostBytes}
 use Rattle.route_sheet.specs.Reading.{readSheet}
 use Rattle.route_sheet.proofs.read_sheet.Statement.{statement}
 use Rattle.route_sheet.proofs.read_sheet.Tie as tie
@@ -14,7 +14,7 @@ returns : tie.Need-returns
 unfolding readSheet
 returns c =
     let text = c .before .before .before .args .text .now in
-    record { held-is = rw (lt-ltb mostBytes (length text) (c .before .if1 .taken)) (c .refused .ensures) }
+    record { contents-are = rw (lt-ltb mostBytes (length text) (c .before .if1 .taken)) (c .refused .ensures) }
 
 read-lines-requires : tie.Need-read-lines-requires
 read-lines-requires c κs = search needs
@@ -23,7 +23,7 @@ returns-2 : tie.Need-returns-2
 unfolding readSheet
 returns-2 c =
     let text = c .before .before .before .args .text .now in
-    record { held-is = rw (le-ltb mostBytes (length text) (c .before .if1 .left)) (c .read-lines .ensures) }
+    record { contents-are = rw (le-ltb mostBytes (length text) (c .before .if1 .left)) (c .read-lines .ensures) }
 
 pub read-sheet-spec : {M : Type 1} → statement M
 read-sheet-spec = tie.close (tie.spec refused-requires returns read-lines-requires returns-2)

@@ -2,7 +2,7 @@
 use mathlib.Core.List.{List}
 use Prim.Native.Nat.{ℕ, _≤_}
 use lib.ListN.{length, take}
-use Rattle.planner.specs.Lists.{Each}
+use Rattle.planner.specs.Result.{Each}
 use Rattle.route_sheet.specs.Sheet.{Within, mostSets, mostMoves}
 use Rattle.route_sheet.specs.declared.RouteMove.{RouteMove}
 

@@ -8,7 +8,7 @@ use mir.Facts.{toZ-ofZ}
 use lib.IntN.{ℤ, pos, _+ℤ_, _-ℤ_}
 use lib.Signed.{quotZ, remZ, mag-rem}
 use Rattle.planner.specs.Quantities.{unitsPerCount}
-use Rattle.motion.specs.Count.{IsCount}
+use Rattle.motion.specs.Sampling.{IsCount}
 use Rattle.motion.proofs.RoundingLaws.{up, down, stay, quotient-fits, count-fits}
 use Rattle.motion.proofs.count.nearest_count.Statement.{statement}
 use Rattle.motion.proofs.count.nearest_count.Tie as tie

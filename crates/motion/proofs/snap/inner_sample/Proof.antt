@@ -10,17 +10,17 @@ use Rattle.motion.proofs.snap.inner_sample.Statement.{statement}
 use Rattle.motion.proofs.snap.inner_sample.Tie as tie
 
 -- the levels as they were passed
-up :
+positive :
     (c : tie.After-struct-told)
     → let x = c .before .before .before .before .args .outer in
-    toZ w64 (ofZ w64 (x .up)) ≡ x .up
-up c = toZ-ofZ {w = w64} {z = c .before .before .before .before .args .outer .up} (record { sfits = c .struct-told .given .0 .1 })
+    toZ w64 (ofZ w64 (x .positive)) ≡ x .positive
+positive c = toZ-ofZ {w = w64} {z = c .before .before .before .before .args .outer .positive} (record { sfits = c .struct-told .given .0 .1 })
 
-down :
+negative :
     (c : tie.After-struct-told)
     → let x = c .before .before .before .before .args .outer in
-    toZ w64 (ofZ w64 (x .down)) ≡ x .down
-down c = toZ-ofZ {w = w64} {z = c .before .before .before .before .args .outer .down} (record { sfits = c .struct-told .given .1 .0 .1 })
+    toZ w64 (ofZ w64 (x .negative)) ≡ x .negative
+negative c = toZ-ofZ {w = w64} {z = c .before .before .before .before .args .outer .negative} (record { sfits = c .struct-told .given .1 .0 .1 })
 
 returns : tie.Need-returns
 returns c = before _ _ _ _ (c .if1 .taken)
@@ -29,9 +29,9 @@ returns-2 : tie.Need-returns-2
 returns-2 c =
     let a = c .before .before .before .before .args in
     let k = a .outer .sample - a .width in
-    subst (λ x. SameSnap (a .width) (a .outer .up) (a .outer .down) (a .outer .sample) x (toZ w64 (ofZ w64 (a .outer .up))) k)
-    (sym (down c))
-    (subst (λ x. SameSnap (a .width) (a .outer .up) (a .outer .down) (a .outer .sample) (a .outer .down) x k) (sym (up c))
+    subst (λ x. SameSnap (a .width) (a .outer .positive) (a .outer .negative) (a .outer .sample) x (toZ w64 (ofZ w64 (a .outer .positive))) k)
+    (sym (negative c))
+    (subst (λ x. SameSnap (a .width) (a .outer .positive) (a .outer .negative) (a .outer .sample) (a .outer .negative) x k) (sym (positive c))
     (past _ _ _ _ (c .before .before .if1 .left)))
 
 pub inner-sample-spec : {M : Type 1} → statement M

@@ -37,13 +37,13 @@ returns : tie.Need-returns
 returns c =
     let n = c .before .args .size in
     let t = along-negative (c .before .args .displacement) (pos n) (rw (toZ-ofZ (c .before .fits .displacement)) at (c .if1 .taken)) in
-    record { up-is = read-taken n (c .before .pre) ∙ sym t; down-is = read n (c .before .pre) ∙ sym (ap negℤ t ∙ negℤ-negℤ (pos n)) }
+    record { positive-is = read-taken n (c .before .pre) ∙ sym t; negative-is = read n (c .before .pre) ∙ sym (ap negℤ t ∙ negℤ-negℤ (pos n)) }
 
 returns-2 : tie.Need-returns-2
 returns-2 c =
     let n = c .before .args .size in
     let t = along-positive (c .before .args .displacement) (pos n) (rw (toZ-ofZ (c .before .fits .displacement)) at (c .if1 .left)) in
-    record { up-is = read n (c .before .pre) ∙ sym t; down-is = read-taken n (c .before .pre) ∙ sym (ap negℤ t) }
+    record { positive-is = read n (c .before .pre) ∙ sym t; negative-is = read-taken n (c .before .pre) ∙ sym (ap negℤ t) }
 
 pub levels-of-spec : {M : Type 1} → statement M
 levels-of-spec = tie.close (tie.spec cast-snap sub-t5 returns sub-t6 returns-2)

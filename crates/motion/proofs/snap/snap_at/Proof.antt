@@ -6,7 +6,9 @@ use Prim.Native.Nat.{ℕ}
 use mir.Syntax.{w64}
 use mir.Val.{toZ, ofZ}
 use mir.Facts.{toZ-ofZ}
-use Rattle.profile.specs.Widths.{snapBy}
+use Rattle.profile.specs.Inner.Widths.{snapBy}
+use Rattle.planner.specs.Outcome.{intervalsIn}
+use Rattle.motion.specs.Inner.Planned.{widthsOf}
 use Rattle.motion.proofs.InnerSampleLaws.{inside, outside}
 use Rattle.motion.proofs.snap.snap_at.Statement.{statement}
 use Rattle.motion.proofs.snap.snap_at.Tie as tie
@@ -21,31 +23,31 @@ inner-sample-requires-3 : tie.Need-inner-sample-requires-3
 inner-sample-requires-3 c κs = search needs
 
 -- the levels as they were passed
-up : (c : tie.After-struct-told) → toZ w64 (ofZ w64 (c .before .args .levels .up)) ≡ c .before .args .levels .up
-up c = toZ-ofZ {w = w64} {z = c .before .args .levels .up} (record { sfits = c .struct-told .given .0 .1 })
+positive : (c : tie.After-struct-told) → toZ w64 (ofZ w64 (c .before .args .levels .positive)) ≡ c .before .args .levels .positive
+positive c = toZ-ofZ {w = w64} {z = c .before .args .levels .positive} (record { sfits = c .struct-told .given .0 .1 })
 
-down : (c : tie.After-struct-told) → toZ w64 (ofZ w64 (c .before .args .levels .down)) ≡ c .before .args .levels .down
-down c = toZ-ofZ {w = w64} {z = c .before .args .levels .down} (record { sfits = c .struct-told .given .1 .0 .1 })
+negative : (c : tie.After-struct-told) → toZ w64 (ofZ w64 (c .before .args .levels .negative)) ≡ c .before .args .levels .negative
+negative c = toZ-ofZ {w = w64} {z = c .before .args .levels .negative} (record { sfits = c .struct-told .given .1 .0 .1 })
 
 first :
     (c : tie.After-inner-sample) (a : ℕ) (ws : List ℕ)
     → let d = c .before .before .args in
-    snapBy a (d .plan .e ∷ ws) (d .levels .up) (d .levels .down) (d .k)
-    ≡ snapBy a ws (c .inner-sample .result .up) (c .inner-sample .result .down) (c .inner-sample .result .sample)
-first c a ws = rw (up (c .before), down (c .before)) at (c .inner-sample .ensures .same a ws)
+    snapBy a (d .plan .e ∷ ws) (d .levels .positive) (d .levels .negative) (d .k)
+    ≡ snapBy a ws (c .inner-sample .result .positive) (c .inner-sample .result .negative) (c .inner-sample .result .sample)
+first c a ws = rw (positive (c .before), negative (c .before)) at (c .inner-sample .ensures .same a ws)
 
 inner :
     (c : tie.After-inner-sample3)
     → let d = c .before .before .before .before .args in
     let x = c .inner-sample3 .result in
-    snapBy (d .plan .a) (d .plan .e ∷ d .plan .c ∷ d .plan .b ∷ []) (d .levels .up) (d .levels .down) (d .k)
-    ≡ snapBy (d .plan .a) [] (x .up) (x .down) (x .sample)
+    snapBy (d .plan .a) (widthsOf (intervalsIn (d .plan))) (d .levels .positive) (d .levels .negative) (d .k)
+    ≡ snapBy (d .plan .a) [] (x .positive) (x .negative) (x .sample)
 inner c = first (c .before .before) _ _ ∙ c .before .inner-sample2 .ensures .same _ _ ∙ c .inner-sample3 .ensures .same _ _
 
 returns : tie.Need-returns
 returns c =
     let d = c .before .before .before .before in
-    toZ-ofZ {w = w64} {z = d .inner-sample3 .result .up} (record { sfits = c .struct-told2 .given .0 .1 })
+    toZ-ofZ {w = w64} {z = d .inner-sample3 .result .positive} (record { sfits = c .struct-told2 .given .0 .1 })
     ∙ sym (inner d ∙ inside _ _ _ _ (c .before .if1 .taken))
 
 returns-2 : tie.Need-returns-2

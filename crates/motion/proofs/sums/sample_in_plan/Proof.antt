@@ -1,17 +1,19 @@
 -- `sample_in_plan` meets its contract: the levels are those of the direction, so the sums are the profile's values.
 use borrow.Author.Needs.{needs}
-use mathlib.Core.List.{[], _∷_}
 use mathlib.Core.Path.{_≡_, sym, ap, subst, _∙_}
 use Prim.Native.Nat.{ℕ}
 use native.Mathlib.Omega.{arith}
 use mir.Syntax.{w64}
+use mir.Val.{toZ, ofZ}
 use mir.Facts.{toZ-ofZ}
 use lib.IntN.{ℤ}
 use Rattle.planner.specs.declared.Plan.{Plan}
-use Rattle.profile.specs.Widths.{snapBy}
+use Rattle.planner.specs.Outcome.{intervalsIn}
+use Rattle.profile.specs.Inner.Widths.{snapBy}
 use Rattle.motion.specs.declared.snap.Levels.{Levels}
 use Rattle.motion.specs.declared.state.State.{State}
-use Rattle.motion.specs.Direction as direction
+use Rattle.motion.specs.Sampling.{IsCount}
+use Rattle.motion.specs.Inner.Planned.{widthsOf, directedSnap}
 use Rattle.motion.specs.Inner.SnapLevels.{AreLevels}
 use Rattle.motion.specs.Inner.Steps.{StepsFitBy, stateAt}
 use Rattle.motion.proofs.StateLaws.{directed, state-is, step-fits, snap-small}
@@ -20,21 +22,21 @@ use Rattle.motion.proofs.sums.sample_in_plan.Statement.{statement}
 use Rattle.motion.proofs.sums.sample_in_plan.Tie as tie
 
 abbrev byWidths : Plan → Levels → ℕ → ℤ
-byWidths plan levels = snapBy (plan .a) (plan .e ∷ plan .c ∷ plan .b ∷ []) (levels .up) (levels .down)
+byWidths plan levels = snapBy (plan .a) (widthsOf (intervalsIn plan)) (levels .positive) (levels .negative)
 
-abbrev directedSnap : ℤ → Plan → ℕ → ℤ
-directedSnap X plan = direction.snap X (plan .a) (plan .b) (plan .c) (plan .e) (plan .snap)
+abbrev snapOf : ℤ → Plan → ℕ → ℤ
+snapOf X plan = directedSnap X (intervalsIn plan) (plan .snap)
 
 abbrev stateOf : ℤ → Plan → ℕ → State
-stateOf X plan k = directed X (plan .a) (plan .b) (plan .c) (plan .e) (plan .snap) k
+stateOf X plan k = directed X (intervalsIn plan) (plan .snap) k
 
 levels-of-requires : tie.Need-levels-of-requires
-levels-of-requires c κs = snap-small (c .args .displacement) _ _ _ _ _ (c .pre .0)
+levels-of-requires c κs = snap-small (c .args .displacement) _ _ (c .pre .0)
 
 -- the snap with the levels that were found
 levels :
     (c : tie.After-levels-of)
-    → byWidths (c .before .args .plan) (c .levels-of .result) ≡ directedSnap (c .before .args .displacement) (c .before .args .plan)
+    → byWidths (c .before .args .plan) (c .levels-of .result) ≡ snapOf (c .before .args .displacement) (c .before .args .plan)
 levels c =
     let a = c .before .args in
     let back = toZ-ofZ {w = w64} {z = a .displacement} (c .before .fits .displacement) in
@@ -45,7 +47,7 @@ sum-to-requires : tie.Need-sum-to-requires
 sum-to-requires c κs =
     let p = c .before .pre in
     subst (λ (f : ℕ → ℤ). StepsFitBy f (c .before .args .k)) (sym (levels c))
-    (record { step-fits = λ i l. step-fits (c .before .args .displacement) _ _ _ _ _ (p .0) i (omega (arith, l, p .1, p .0 .samples)) })
+    (record { step-fits = λ i l. step-fits (c .before .args .displacement) _ _ (p .0) i (omega (arith, l, p .1, p .0 .samples)) })
 
 snap-at-requires : tie.Need-snap-at-requires
 snap-at-requires c κs = search needs
@@ -60,12 +62,12 @@ state :
 state c =
     c .sum-to .ensures
     ∙ ap (λ (f : ℕ → ℤ). stateAt f (c .before .before .args .k)) (levels (c .before))
-    ∙ state-is (c .before .before .args .displacement) _ _ _ _ _ (c .before .before .args .k)
+    ∙ state-is (c .before .before .args .displacement) _ _ (c .before .before .args .k)
 
 snap :
     (c : tie.After-snap-at)
     → c .snap-at .result
-    ≡ directedSnap (c .before .before .before .args .displacement) (c .before .before .before .args .plan)
+    ≡ snapOf (c .before .before .before .args .displacement) (c .before .before .before .args .plan)
     (c .before .before .before .args .k)
 snap c = c .snap-at .ensures ∙ ap (λ (f : ℕ → ℤ). f (c .before .before .before .args .k)) (levels (c .before .before))
 
@@ -76,15 +78,25 @@ returns c =
     let g = c .struct-told2 .given in
     let x = d .sum-to .result in
     let n = c .before .nearest-count in
+    let snap-is = toZ-ofZ {w = w64} {z = b .snap-at .result} (record { sfits = b .snap-at .ok }) ∙ snap b in
+    let jerk-is = toZ-ofZ {w = w64} {z = x .jerk} (record { sfits = g .1 .0 .1 }) ∙ ap (λ (s : State). s .jerk) (state d) in
+    let acceleration-is =
+    toZ-ofZ {w = w64} {z = x .acceleration} (record { sfits = g .1 .1 .0 .1 }) ∙ ap (λ (s : State). s .acceleration) (state d) in
+    let velocity-is = toZ-ofZ {w = w64} {z = x .velocity} (record { sfits = g .1 .1 .1 .0 .1 }) ∙ ap (λ (s : State). s .velocity) (state d) in
+    let position-is = toZ-ofZ {w = w64} {z = x .position} (record { sfits = g .1 .1 .1 .1 .0 .1 }) ∙ ap (λ (s : State). s .position) (state d) in
+    let count-is : IsCount (toZ w64 (ofZ w64 (x .position))) (toZ w64 (ofZ w64 (n .result))) =
+    rw (toZ-ofZ {w = w64} {z = n .result} (record { sfits = n .ok })) (n .ensures) in
     record {
-      snap-is = toZ-ofZ {w = w64} {z = b .snap-at .result} (record { sfits = b .snap-at .ok }) ∙ snap b;
-      jerk-is = toZ-ofZ {w = w64} {z = x .jerk} (record { sfits = g .1 .0 .1 }) ∙ ap (λ (s : State). s .jerk) (state d);
-      acceleration-is =
-          toZ-ofZ {w = w64} {z = x .acceleration} (record { sfits = g .1 .1 .0 .1 }) ∙ ap (λ (s : State). s .acceleration) (state d);
-      velocity-is = toZ-ofZ {w = w64} {z = x .velocity} (record { sfits = g .1 .1 .1 .0 .1 }) ∙ ap (λ (s : State). s .velocity) (state d);
-      position-is =
-          toZ-ofZ {w = w64} {z = x .position} (record { sfits = g .1 .1 .1 .1 .0 .1 }) ∙ ap (λ (s : State). s .position) (state d);
-      count-is = rw (toZ-ofZ {w = w64} {z = n .result} (record { sfits = n .ok })) (n .ensures);
+      sample-is = λ i.
+          record {
+            snap = snap-is i;
+            jerk = jerk-is i;
+            acceleration = acceleration-is i;
+            velocity = velocity-is i;
+            position = position-is i;
+            count = toZ w64 (ofZ w64 (n .result));
+          };
+      count-is = subst (λ y. IsCount y (toZ w64 (ofZ w64 (n .result)))) position-is count-is;
     }
 
 pub sample-in-plan-spec : {M : Type 1} → statement M

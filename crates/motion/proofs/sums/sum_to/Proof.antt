@@ -1,5 +1,4 @@
 -- `sum_to` meets its contract. The loop's invariant: the state is the one at its sample.
-use mathlib.Core.List.{[], _∷_}
 use mathlib.Core.Path.{_≡_, ap, _∙_}
 use Prim.Native.Nat.{ℕ, _-_, _≤_}
 use native.Mathlib.Nat.{le-antisymm}
@@ -9,7 +8,9 @@ use mir.Val.{toZ, ofZ}
 use mir.Facts.{toZ-ofZ}
 use lib.IntN.{ℤ}
 use Rattle.planner.specs.declared.Plan.{Plan}
-use Rattle.profile.specs.Widths.{snapBy}
+use Rattle.planner.specs.Outcome.{intervalsIn}
+use Rattle.profile.specs.Inner.Widths.{snapBy}
+use Rattle.motion.specs.Inner.Planned.{widthsOf}
 use Rattle.motion.specs.declared.state.State.{State}
 use Rattle.motion.specs.declared.snap.Levels.{Levels}
 use Rattle.motion.proofs.StepLaws.{On, on-first, on-next, on-at}
@@ -17,7 +18,7 @@ use Rattle.motion.proofs.sums.sum_to.Statement.{statement}
 use Rattle.motion.proofs.sums.sum_to.Tie as tie
 
 abbrev snap : Plan → Levels → ℕ → ℤ
-snap plan levels = snapBy (plan .a) (plan .e ∷ plan .c ∷ plan .b ∷ []) (levels .up) (levels .down)
+snap plan levels = snapBy (plan .a) (widthsOf (intervalsIn plan)) (levels .positive) (levels .negative)
 
 abbrev Inv-loop : tie.InvT-loop
 Inv-loop plan levels k state₀ state = (state .sample ≤ k) × On (snap plan levels) state

@@ -1,10 +1,9 @@
 -- `plan_result` meets its contract: each case fills its fields.
 use borrow.Author.Needs.{needs}
-use mathlib.Core.Path.{subst}
-use Rattle.planner.specs.Answer.{outcome}
+use mathlib.Core.Path.{refl, subst}
+use Rattle.planner.specs.Outcome.{outcome}
 use Rattle.planner.specs.declared.PlanAnswer.{PlanAnswer}
 use Rattle.nitswolan.specs.Inner.{SamplesFit}
-use Rattle.nitswolan.proofs.PlanLaws.{plan-given, plan-refused}
 use Rattle.nitswolan.proofs.plan.plan_result.Statement.{statement}
 use Rattle.nitswolan.proofs.plan.plan_result.Tie as tie
 
@@ -21,10 +20,10 @@ refusal-number-requires : tie.Need-refusal-number-requires
 refusal-number-requires c κs = search needs
 
 returns : tie.Need-returns
-returns c = plan-given (c .before .before .answer .given .1) (c .samples-of .ensures)
+returns c = rw (c .before .before .answer .given .1, c .samples-of .ensures) refl
 
 returns-2 : tie.Need-returns-2
-returns-2 c = plan-refused (c .before .before .answer2 .given .1) (c .refusal-number .ensures)
+returns-2 c = rw (c .before .before .answer2 .given .1, c .refusal-number .ensures) refl
 
 pub plan-result-spec : {M : Type 1} → statement M
 plan-result-spec =

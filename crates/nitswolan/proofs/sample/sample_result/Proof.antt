@@ -1,13 +1,13 @@
 -- `sample_result` meets its contract: each case fills its fields.
 use borrow.Author.Needs.{needs, sfits-of}
-use mathlib.Core.Path.{_≡_}
+use mathlib.Core.Path.{_≡_, refl}
 use Prim.Native.Nat.{_<_, _^_}
 use mir.Syntax.{w64}
 use mir.Val.{hbits, ofZ, toZ}
 use mir.Facts.{toZ-ofZ}
 use lib.IntN.{ℤ}
 use lib.Signed.{mag}
-use Rattle.nitswolan.proofs.SampleLaws.{sample-given, sample-refused}
+use Rattle.nitswolan.proofs.SampleLaws.{sample-given}
 use Rattle.nitswolan.proofs.sample.sample_result.Statement.{statement}
 use Rattle.nitswolan.proofs.sample.sample_result.Tie as tie
 
@@ -37,7 +37,7 @@ returns c =
     (kept (x .count) (g .1 .1 .1 .1 .1 .0 .1))
 
 returns-2 : tie.Need-returns-2
-returns-2 c = sample-refused (c .before .before .answer2 .given .1) (c .refusal-number .ensures)
+returns-2 c = rw (c .before .before .answer2 .given .1, c .refusal-number .ensures) refl
 
 pub sample-result-spec : {M : Type 1} → statement M
 sample-result-spec =

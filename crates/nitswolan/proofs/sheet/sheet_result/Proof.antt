@@ -1,6 +1,6 @@
 -- `sheet_result` meets its contract: each case fills its fields.
 use borrow.Author.Needs.{needs}
-use Rattle.nitswolan.proofs.SheetLaws.{sheet-given, sheet-refused}
+use mathlib.Core.Path.{refl}
 use Rattle.nitswolan.proofs.sheet.sheet_result.Statement.{statement}
 use Rattle.nitswolan.proofs.sheet.sheet_result.Tie as tie
 
@@ -17,10 +17,10 @@ line-of-requires : tie.Need-line-of-requires
 line-of-requires c κs = search needs
 
 returns : tie.Need-returns
-returns c = sheet-given (c .before .answer .given .1)
+returns c = rw (c .before .answer .given .1) refl
 
 returns-2 : tie.Need-returns-2
-returns-2 c = sheet-refused (c .before .before .before .answer2 .given .1) (c .before .refusal-number .ensures) (c .line-of .ensures)
+returns-2 c = rw (c .before .before .before .answer2 .given .1, c .before .refusal-number .ensures, c .line-of .ensures) refl
 
 pub sheet-result-spec : {M : Type 1} → statement M
 sheet-result-spec =

@@ -1,6 +1,6 @@
 -- `table_result` meets its contract: each case fills its fields.
 use borrow.Author.Needs.{needs}
-use Rattle.nitswolan.proofs.TableLaws.{table-given, table-refused}
+use mathlib.Core.Path.{refl}
 use Rattle.nitswolan.proofs.table.table_result.Statement.{statement}
 use Rattle.nitswolan.proofs.table.table_result.Tie as tie
 
@@ -14,10 +14,10 @@ refusal-number-requires : tie.Need-refusal-number-requires
 refusal-number-requires c κs = search needs
 
 returns : tie.Need-returns
-returns c = table-given (c .before .answer .given .1)
+returns c = rw (c .before .answer .given .1) refl
 
 returns-2 : tie.Need-returns-2
-returns-2 c = table-refused (c .before .before .answer2 .given .1) (c .refusal-number .ensures)
+returns-2 c = rw (c .before .before .answer2 .given .1, c .refusal-number .ensures) refl
 
 pub table-result-spec : {M : Type 1} → statement M
 table-result-spec =

@@ -4,7 +4,7 @@ use native.Mathlib.Omega.{arith}
 use Rattle.planner.specs.Intervals.{interval-a}
 use Rattle.planner.proofs.BoundLaws.{one-interval-a}
 use Rattle.planner.proofs.CapLaws.{between, between-min, agrees-from-one}
-use Rattle.planner.proofs.Forms.{a-distance-form, a-velocity-form, a-acceleration-form, a-jerk-form}
+use Rattle.planner.proofs.Forms.{power-form, linear-form}
 use Rattle.planner.proofs.intervals.interval_a.Statement.{statement}
 use Rattle.planner.proofs.intervals.interval_a.Tie as tie
 
@@ -30,10 +30,10 @@ returns : tie.Need-returns
 unfolding interval-a
 returns c =
     agrees-from-one 4097
-    (between-min _ (a-distance-form _ _)
-    (between-min _ (a-velocity-form _ _)
-    (between-min _ (a-acceleration-form _ _)
-    (between _ (a-jerk-form _ _) (c .before .before .before .least-interval .ensures))
+    (between-min _ (power-form _ 3)
+    (between-min _ (power-form _ 2)
+    (between-min _ (power-form _ 1)
+    (between _ (linear-form _ 0) (c .before .before .before .least-interval .ensures))
     (c .before .before .least-interval2 .ensures))
     (c .before .least-interval3 .ensures))
     (c .least-interval4 .ensures))

@@ -3,7 +3,7 @@ use borrow.Author.Needs.{needs}
 use native.Mathlib.Omega.{arith}
 use Rattle.planner.specs.Intervals.{interval-b}
 use Rattle.planner.proofs.CapLaws.{between, between-min, agrees}
-use Rattle.planner.proofs.Forms.{b-distance-form, b-velocity-form, b-acceleration-form}
+use Rattle.planner.proofs.Forms.{linear-form, product-form, square-form}
 use Rattle.planner.proofs.intervals.interval_b.Statement.{statement}
 use Rattle.planner.proofs.intervals.interval_b.Tie as tie
 
@@ -24,9 +24,9 @@ unfolding interval-b
 returns c =
     let p = c .before .before .before .pre in
     agrees 4097
-    (between-min _ (b-distance-form _ _ _)
-    (between-min _ (b-velocity-form _ _ _)
-    (between _ (b-acceleration-form _ _ _) (c .before .before .least-interval .ensures))
+    (between-min _ (product-form _ _ 2)
+    (between-min _ (square-form _ _)
+    (between _ (linear-form _ _) (c .before .before .least-interval .ensures))
     (c .before .least-interval2 .ensures))
     (c .least-interval3 .ensures))
     (p .4) (p .5) (omega arith) (omega arith)

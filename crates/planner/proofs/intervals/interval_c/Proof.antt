@@ -3,7 +3,7 @@ use borrow.Author.Needs.{needs}
 use native.Mathlib.Omega.{arith}
 use Rattle.planner.specs.Intervals.{interval-c}
 use Rattle.planner.proofs.CapLaws.{between, between-min, agrees}
-use Rattle.planner.proofs.Forms.{c-distance-form, c-velocity-form}
+use Rattle.planner.proofs.Forms.{linear-form, square-form}
 use Rattle.planner.proofs.intervals.interval_c.Statement.{statement}
 use Rattle.planner.proofs.intervals.interval_c.Tie as tie
 
@@ -23,8 +23,8 @@ returns : tie.Need-returns
 unfolding interval-c
 returns c =
     agrees 8194
-    (between-min _ (c-distance-form _ _ _ _)
-    (between _ (c-velocity-form _ _ _ _) (c .before .least-interval .ensures))
+    (between-min _ (square-form _ _)
+    (between _ (linear-form _ _) (c .before .least-interval .ensures))
     (c .least-interval2 .ensures))
     (omega arith) (omega arith) (omega arith) (omega arith)
 

@@ -3,7 +3,7 @@ use borrow.Author.Needs.{needs}
 use native.Mathlib.Omega.{arith}
 use Rattle.planner.specs.Intervals.{interval-e}
 use Rattle.planner.proofs.CapLaws.{between, agrees}
-use Rattle.planner.proofs.Forms.{e-distance-form}
+use Rattle.planner.proofs.Forms.{linear-form}
 use Rattle.planner.proofs.intervals.interval_e.Statement.{statement}
 use Rattle.planner.proofs.intervals.interval_e.Tie as tie
 
@@ -22,7 +22,7 @@ least-interval-requires c κs = search needs
 returns : tie.Need-returns
 unfolding interval-e
 returns c =
-    agrees 16388 (between _ (e-distance-form _ _) (c .least-interval .ensures)) (omega arith) (omega arith) (omega arith) (omega arith)
+    agrees 16388 (between _ (linear-form _ 0) (c .least-interval .ensures)) (omega arith) (omega arith) (omega arith) (omega arith)
 
 pub interval-e-spec : {M : Type 1} → statement M
 interval-e-spec =

@@ -2,8 +2,6 @@
 use Prim.Native.Nat.{ℕ, _+_, _-_, _*_, _/_, _^_, _<_, _≤_}
 use native.Mathlib.Nat.{mul-le-mul}
 use native.Mathlib.Omega.{arith}
-use borrow.Author.Tests.{le-leb, lt-leb}
-use Rattle.planner.specs.Inner.Search.{growth}
 use Rattle.planner.proofs.SpanLaws.{within-one, within-left, within-right}
 use Rattle.planner.proofs.ReachLaws.{pow-bound, growth-rising}
 use borrow.Fn.Kinds.{In}
@@ -30,7 +28,7 @@ abbrev claims : ℕ → search-lts.Claims
 claims t = (power-reads.Asked, power-reads.Learnt, search-below t, search′.Post)
 
 search-returns : (t : ℕ) → search-lts.Need-returns (claims t) (search-at t) search′.Post
-search-returns t c = within-one _ (c .before .args .lo) (c .before .args .hi) (c .if1 .taken)
+search-returns t c = within-one (c .if1 .taken)
 
 search-add-mid : (t : ℕ) → search-lts.Need-add-mid (claims t) (search-at t) search′.Post
 search-add-mid t c = omega arith
@@ -63,17 +61,12 @@ search-returns-2 : (t : ℕ) → search-lts.Need-returns-2 (claims t) (search-at
 search-returns-2 t c =
     let a = c .before .before .before .before .args in
     let mid : ℕ = (a .lo + a .hi) / 2 in
-    within-right _ (a .lo) mid (a .hi) (c .search .result) (growth-rising (a .u) (a .d) (a .t)) (omega arith)
-    (lt-leb (a .t) (growth (a .u) (a .d) mid) (rw (c .before .before .power .ensures) at (c .before .if2 .taken)))
+    within-right mid (growth-rising (a .u) (a .d)) (omega arith) (rw (c .before .before .power .ensures) at (c .before .if2 .taken))
     (c .search .ensures)
 
 search-returns-3 : (t : ℕ) → search-lts.Need-returns-3 (claims t) (search-at t) search′.Post
 search-returns-3 t c =
-    let a = c .before .before .before .before .args in
-    let mid : ℕ = (a .lo + a .hi) / 2 in
-    within-left _ (a .lo) mid (a .hi) (c .search2 .result) (omega arith)
-    (le-leb (a .t) (growth (a .u) (a .d) mid) (rw (c .before .before .power .ensures) at (c .before .if2 .left)))
-    (c .search2 .ensures)
+    within-left (omega arith) (rw (c .before .before .power .ensures) at (c .before .if2 .left)) (c .search2 .ensures)
 
 pub +search-spec : {M : Type 1} → statement M
 +search-spec = close μ-search λ t. search-lts.spec (claims t) (search-at t) search′.Post

@@ -20,7 +20,7 @@ returns : tie.Need-returns
 returns c =
     let a = c .before .args in
     let p = c .before .pre in
-    least-between (a .k) (a .u) (a .d) (a .t) (a .lo) (a .hi) (c .search .result) (p .bound) (p .target) (p .from-one) (p .span .ordered) (c .search .ensures)
+    least-between (a .k) (a .u) (a .d) (p .bound) (a .t) (p .from-one) (p .span .ordered) (c .search .ensures)
 
 pub least-interval-spec : {M : Type 1} → statement M
 least-interval-spec = tie.close (tie.spec sub-search add-search div-search search-requires returns)

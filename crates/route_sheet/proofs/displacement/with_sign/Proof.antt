@@ -6,7 +6,7 @@ use mir.ValLaws.{toZ-pos}
 use Prim.Native.Nat.{_^_, _<_}
 use native.Mathlib.Omega.{arith}
 use lib.IntN.{pos, negℤ}
-use Rattle.planner.specs.Direction.{signed}
+use Rattle.planner.specs.Quantities.{signed}
 use Rattle.planner.proofs.Sign.{negative-fits, negated}
 use Rattle.route_sheet.proofs.displacement.with_sign.Statement.{statement}
 use Rattle.route_sheet.proofs.displacement.with_sign.Tie as tie

@@ -4,7 +4,7 @@ use borrow.Author.Tests.{not-true, not-false}
 use mathlib.Core.Bool.{true, false}
 use mathlib.Core.Path.{_≡_, sym, _∙_}
 use Rattle.route_sheet.specs.Reading.{isDigit, digitValue}
-use Rattle.route_sheet.proofs.ByteLaws.{failed, no-digit, digit-from}
+use Rattle.route_sheet.proofs.ByteLaws.{test-false, no-digit, digit-from}
 use Rattle.route_sheet.proofs.number.begins_number.Statement.{statement}
 use Rattle.route_sheet.proofs.number.begins_number.Tie as tie
 
@@ -16,7 +16,7 @@ returns c =
     let args = c .before .before .args in
     let none : isDigit (args .b) ≡ false = sym (c .before .is-digit .ensures) ∙ not-true (c .before .is-digit .result) (c .if1 .taken) in
     let first = digitValue (args .b) in
-    sym (failed (args .b) (args .least) first first (args .most) (no-digit (args .b) (args .least) first first (args .most) none))
+    sym (test-false (args .b) (args .least) first first (args .most) (no-digit (args .b) (args .least) first first (args .most) none))
 
 digit : (c : tie.Else1) → isDigit (c .before .before .args .b) ≡ true
 digit c = sym (c .before .is-digit .ensures) ∙ not-false (c .before .is-digit .result) (c .if1 .left)

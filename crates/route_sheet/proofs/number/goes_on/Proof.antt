@@ -7,13 +7,13 @@ use Prim.Native.Nat.{ℕ, _-_, _*_, _≤_, _<_}
 use native.Mathlib.Omega.{arith}
 use lib.Dec.{leb}
 use Rattle.route_sheet.specs.Reading.{isDigit, digitValue, goesOn, withDigit}
-use Rattle.route_sheet.proofs.ByteLaws.{Passes, failed, no-digit, digit-from}
+use Rattle.route_sheet.proofs.ByteLaws.{Passes, test-false, no-digit, digit-from}
 use Rattle.route_sheet.proofs.number.goes_on.Statement.{statement}
 use Rattle.route_sheet.proofs.number.goes_on.Tie as tie
 
 -- The test fails where the facts behind it cannot all hold.
 stays : (most n b : ℕ) → (Passes b 1 n (withDigit n b) most → ⊥) → false ≡ goesOn most n b
-stays most n b h = sym (failed b 1 n (withDigit n b) most h)
+stays most n b h = sym (test-false b 1 n (withDigit n b) most h)
 
 is-digit-requires : tie.Need-is-digit-requires
 is-digit-requires c κs = search needs

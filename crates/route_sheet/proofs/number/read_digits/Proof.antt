@@ -7,7 +7,7 @@ use Prim.Native.Nat.{ℕ, _-_, _≤_}
 use native.Mathlib.Omega.{arith}
 use lib.ListN.{length, drop, getD, drop-of-length-le}
 use Rattle.route_sheet.specs.Reading.{withDigit, readDigits}
-use Rattle.route_sheet.proofs.ByteLaws.{Passes, passes, not-passed, digits-end, digits-next, digits-stop}
+use Rattle.route_sheet.proofs.ByteLaws.{Passes, passes, not-passes, digits-end, digits-next, digits-stop}
 use Rattle.route_sheet.proofs.OffsetLaws.{byte-at}
 use Rattle.route_sheet.proofs.number.read_digits.Statement.{statement}
 use Rattle.route_sheet.proofs.number.read_digits.Tie as tie
@@ -47,7 +47,7 @@ returns-2 c =
     let loop = c .before .before .before .before .before .loop in
     let here = byte-at (args .text .now) (loop .i) (c .before .before .before .before .loop-test .taken) in
     let fails = sym (c .before .goes-on .ensures) ∙ not-true (c .before .goes-on .result) (c .if2 .taken) in
-    let none = not-passed _ 1 (loop .n) _ (args .most) fails in
+    let none = not-passes _ 1 (loop .n) _ (args .most) fails in
     record {
       read-is = sym (loop .inv .0 ∙ rw here (digits-stop (args .most) (args .end) (loop .n) _ _ (c .before .before .if1 .left) none));
       at-most = omega arith;

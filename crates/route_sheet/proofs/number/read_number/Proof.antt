@@ -6,7 +6,7 @@ use Prim.Native.Nat.{ℕ}
 use native.Mathlib.Omega.{arith}
 use lib.ListN.{getD, drop-of-length-le}
 use Rattle.route_sheet.specs.Reading.{digitValue, readNumber}
-use Rattle.route_sheet.proofs.ByteLaws.{Passes, passes, not-passed, number-start, number-stop}
+use Rattle.route_sheet.proofs.ByteLaws.{Passes, passes, not-passes, number-start, number-stop}
 use Rattle.route_sheet.proofs.OffsetLaws.{byte-at}
 use Rattle.route_sheet.proofs.number.read_number.Statement.{statement}
 use Rattle.route_sheet.proofs.number.read_number.Tie as tie
@@ -31,7 +31,7 @@ returns-2 c =
     let args = c .before .before .before .before .before .args in
     let first = digitValue (byte (c .before)) in
     let fails = sym (c .before .begins-number .ensures) ∙ not-true (c .before .begins-number .result) (c .if2 .taken) in
-    let none = not-passed (byte (c .before)) (args .least) first first (args .most) fails in
+    let none = not-passes (byte (c .before)) (args .least) first first (args .most) fails in
     let here = byte-at (args .text .now) (args .from) (c .before .before .before .if1 .left) in
     record { read-is = rw (here, number-stop (args .least) (args .most) (args .end) _ _ none); at-most = omega arith }
 

@@ -4,7 +4,7 @@ use native.Mathlib.Omega.{arith}
 use borrow.Fn.Kinds.{In}
 use borrow.Fn.PlainCycle.{Measures, is, falls, and}
 use lib.ListN.{length, length-append}
-use Rattle.route_sheet.specs.Decimal.{digit, decimal}
+use Rattle.route_sheet.specs.Text.{digit, decimal}
 use Rattle.route_sheet.specs.Report.{mostReport}
 use Rattle.route_sheet.proofs.DecimalLaws.{decimal-digit, decimal-more}
 use Rattle.route_sheet.proofs.OutputLaws.{put-none, put-byte}

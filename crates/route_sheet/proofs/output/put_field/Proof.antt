@@ -1,5 +1,5 @@
 -- `put_field` meets its contract.
-use Rattle.route_sheet.specs.Decimal.{decimal}
+use Rattle.route_sheet.specs.Text.{decimal}
 use Rattle.route_sheet.proofs.OutputLaws.{put-more, SplitRoom, split-room}
 use Rattle.route_sheet.proofs.output.put_field.Statement.{statement}
 use Rattle.route_sheet.proofs.output.put_field.Tie as tie

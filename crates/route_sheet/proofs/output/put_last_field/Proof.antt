@@ -1,13 +1,12 @@
 -- `put_last_field` meets its contract.
 use borrow.Author.Needs.{needs}
-use mathlib.Core.List.{_++_}
-use Rattle.route_sheet.specs.Decimal.{decimal}
-use Rattle.route_sheet.specs.Report.{endOfLine}
+use mathlib.Core.List.{[], _∷_, _++_}
+use Rattle.route_sheet.specs.Text.{lineEnd, decimal}
 use Rattle.route_sheet.proofs.OutputLaws.{put-more, SplitRoom, split-room}
 use Rattle.route_sheet.proofs.output.put_last_field.Statement.{statement}
 use Rattle.route_sheet.proofs.output.put_last_field.Tie as tie
 
-room : (c : tie.Start) → SplitRoom (c .args .at) (c .args .word .now ++ decimal (c .args .n)) endOfLine
+room : (c : tie.Start) → SplitRoom (c .args .at) (c .args .word .now ++ decimal (c .args .n)) (lineEnd ∷ [])
 room c = split-room _ _ _ (c .pre)
 
 put-field-requires : tie.Need-put-field-requires

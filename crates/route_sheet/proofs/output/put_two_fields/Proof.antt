@@ -1,14 +1,14 @@
 -- `put_two_fields` meets its contract.
 use mathlib.Core.List.{_++_}
-use Rattle.route_sheet.specs.Decimal.{decimal}
-use Rattle.route_sheet.specs.Report.{endOfLine}
+use Rattle.route_sheet.specs.Text.{lineEnd, decimal}
+use Rattle.route_sheet.specs.Sheet.{ended}
 use Rattle.route_sheet.proofs.OutputLaws.{put-more, SplitRoom, split-room}
 use Rattle.route_sheet.proofs.output.put_two_fields.Statement.{statement}
 use Rattle.route_sheet.proofs.output.put_two_fields.Tie as tie
 
 room :
     (c : tie.Start) →
-    SplitRoom (c .args .at) (c .args .first .now ++ decimal (c .args .m)) ((c .args .second .now ++ decimal (c .args .n)) ++ endOfLine)
+    SplitRoom (c .args .at) (c .args .first .now ++ decimal (c .args .m)) (ended lineEnd (c .args .second .now ++ decimal (c .args .n)))
 room c = split-room _ _ _ (c .pre)
 
 put-field-requires : tie.Need-put-field-requires

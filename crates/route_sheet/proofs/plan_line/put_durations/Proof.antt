@@ -2,27 +2,31 @@
 use borrow.Author.Needs.{needs}
 use mathlib.Core.List.{List, _++_}
 use Prim.Native.Nat.{ℕ}
-use Rattle.planner.specs.Durations.{p, q, r, s, N}
+use Rattle.planner.specs.Intervals.{Intervals, p, q, r, s, N}
 use Rattle.route_sheet.specs.Report.{field}
+use Rattle.route_sheet.specs.Inner.Lines.{intervals}
 use Rattle.route_sheet.proofs.OutputLaws.{put-more, SplitRoom, split-room}
 use Rattle.route_sheet.proofs.plan_line.put_durations.Statement.{statement}
 use Rattle.route_sheet.proofs.plan_line.put_durations.Tie as tie
 
+abbrev passedIntervals : tie.Start → Intervals
+passedIntervals c = intervals (c .args .a) (c .args .b) (c .args .c) (c .args .e)
+
 -- `durationsText` is these five, one after the other.
 abbrev fieldN : tie.Start → List ℕ
-fieldN c = field " n " (N (c .args .a) (c .args .b) (c .args .c) (c .args .e))
+fieldN c = field " n " (N (passedIntervals c))
 
 abbrev fieldP : tie.Start → List ℕ
-fieldP c = field " p " (p (c .args .a))
+fieldP c = field " p " (p (passedIntervals c))
 
 abbrev fieldQ : tie.Start → List ℕ
-fieldQ c = field " q " (q (c .args .a) (c .args .b))
+fieldQ c = field " q " (q (passedIntervals c))
 
 abbrev fieldR : tie.Start → List ℕ
-fieldR c = field " r " (r (c .args .a) (c .args .b) (c .args .c))
+fieldR c = field " r " (r (passedIntervals c))
 
 abbrev fieldS : tie.Start → List ℕ
-fieldS c = field " s " (s (c .args .a) (c .args .b) (c .args .c) (c .args .e))
+fieldS c = field " s " (s (passedIntervals c))
 
 slice-aggregate-put-field : tie.Need-slice-aggregate-put-field
 slice-aggregate-put-field c = search needs

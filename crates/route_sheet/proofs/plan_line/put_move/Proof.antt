@@ -10,7 +10,7 @@ use Rattle.route_sheet.proofs.PlanLineLaws.{outcome-of, plan-room, refu
 use Rattle.route_sheet.proofs.plan_line.put_move.Statement.{statement}
 use Rattle.route_sheet.proofs.plan_line.put_move.Tie as tie
 
--- X as the code holds it.
+-- X, read back from its bits.
 back : (c : tie.After-struct-told) → toZ w64 (ofZ w64 (c .before .args .m .displacement)) ≡ c .before .args .m .displacement
 back c = toZ-ofZ (record { sfits = c .struct-told .given .0 .1 })
 

@@ -3,7 +3,10 @@ use borrow.Author.Needs.{needs}
 use mathlib.Core.List.{List, _++_}
 use Prim.Native.Nat.{ℕ}
 use mir.Facts.{toZ-ofZ}
-use Rattle.route_sheet.specs.Report.{field, endOfLine}
+use Rattle.planner.specs.Outcome.{intervalsIn}
+use Rattle.route_sheet.specs.Text.{lineEnd}
+use Rattle.route_sheet.specs.Sheet.{ended}
+use Rattle.route_sheet.specs.Report.{field}
 use Rattle.route_sheet.specs.Inner.Output.{Puts}
 use Rattle.route_sheet.specs.Inner.Lines.{durationsText, snapText}
 use Rattle.route_sheet.proofs.LineTextLaws.{plan-text}
@@ -16,13 +19,13 @@ abbrev numberText : tie.Start → List ℕ
 numberText c = field "move " (c .args .number)
 
 abbrev durations : tie.Start → List ℕ
-durations c = durationsText (c .args .plan .a) (c .args .plan .b) (c .args .plan .c) (c .args .plan .e)
+durations c = durationsText (intervalsIn (c .args .plan))
 
 abbrev snap : tie.Start → List ℕ
 snap c = snapText (c .args .x) (c .args .plan .snap)
 
 abbrev short : tie.Start → List ℕ
-short c = field " short " (c .args .plan .shortfall) ++ endOfLine
+short c = ended lineEnd (field " short " (c .args .plan .shortfall))
 
 room-number : (c : tie.Start) → SplitRoom (c .args .at) (numberText c) (durations c ++ (snap c ++ short c))
 room-number c = split-room _ _ _ (rw plan-text at (c .pre .room))

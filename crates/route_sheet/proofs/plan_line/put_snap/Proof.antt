@@ -6,9 +6,8 @@ use mathlib.Core.Path.{_≡_}
 use mir.Facts.{toZ-ofZ}
 use lib.IntN.{pos}
 use lib.Signed.{ltZ}
-use Rattle.planner.specs.Direction.{along}
-use Rattle.route_sheet.specs.Text.{minus}
-use Rattle.route_sheet.specs.Decimal.{decimal, signedDecimal}
+use Rattle.planner.specs.Quantities.{along}
+use Rattle.route_sheet.specs.Text.{minus, decimal, signedDecimal}
 use Rattle.route_sheet.proofs.LineTextLaws.{sign-negative, sign-positive}
 use Rattle.route_sheet.proofs.plan_line.put_snap.Statement.{statement}
 use Rattle.route_sheet.proofs.plan_line.put_snap.Tie as tie

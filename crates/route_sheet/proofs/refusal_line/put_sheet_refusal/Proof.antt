@@ -1,10 +1,16 @@
 -- `put_sheet_refusal` meets its contract.
 use borrow.Author.Needs.{needs}
 use mathlib.Core.Path.{_≡_, ap, _∙_}
-use Rattle.route_sheet.specs.Answer.{number}
+use Prim.Native.Nat.{ℕ}
+use Rattle.route_sheet.specs.Answer.{numberAndLine}
+use Rattle.route_sheet.specs.declared.SheetRefusal.{SheetRefusal}
 use Rattle.route_sheet.specs.Report.{field, sheetReport}
 use Rattle.route_sheet.proofs.refusal_line.put_sheet_refusal.Statement.{statement}
 use Rattle.route_sheet.proofs.refusal_line.put_sheet_refusal.Tie as tie
+
+-- The number of a refusal.
+abbrev first : SheetRefusal → ℕ
+first x = numberAndLine x .0
 
 refusal-number-requires : tie.Need-refusal-number-requires
 refusal-number-requires c κs = search needs
@@ -19,7 +25,7 @@ slice-aggregate-put-two-fields-2 : tie.Need-slice-aggregate-put-two-fields-2
 slice-aggregate-put-two-fields-2 c = search needs
 
 eleven : (c : tie.After-refusal) → c .before .before .refusal-number .result ≡ 11
-eleven c = c .before .before .refusal-number .ensures ∙ ap number (c .refusal .given .1)
+eleven c = c .before .before .refusal-number .ensures ∙ ap first (c .refusal .given .1)
 
 put-two-fields-requires : tie.Need-put-two-fields-requires
 unfolding sheetReport field
@@ -34,7 +40,7 @@ slice-aggregate-put-last-field : tie.Need-slice-aggregate-put-last-field
 slice-aggregate-put-last-field c = search needs
 
 twelve : (c : tie.After-enum-told) → c .before .before .refusal-number .result ≡ 12
-twelve c = c .before .before .refusal-number .ensures ∙ ap number (c .enum-told .given .1)
+twelve c = c .before .before .refusal-number .ensures ∙ ap first (c .enum-told .given .1)
 
 put-last-field-requires : tie.Need-put-last-field-requires
 unfolding sheetReport field

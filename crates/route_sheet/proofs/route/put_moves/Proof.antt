@@ -9,8 +9,8 @@ use native.Mathlib.Omega.{arith}
 use lib.ListN.{getD}
 use Rattle.route_sheet.specs.Sheet.{Within, mostSets}
 use Rattle.route_sheet.specs.Answer.{zeroMove}
-use Rattle.route_sheet.specs.Report.{outcomeIn}
-use Rattle.route_sheet.proofs.RouteRuns.{LinesPut, no-line, line-room, next-line, set-number}
+use Rattle.route_sheet.specs.Report.{moveOf}
+use Rattle.route_sheet.proofs.RouteRuns.{LinesPut, no-line, line-room, next-line, set-within}
 use Rattle.route_sheet.proofs.route.put_moves.Statement.{statement}
 use Rattle.route_sheet.proofs.route.put_moves.Tie as tie
 
@@ -34,7 +34,7 @@ named :
     (c : tie.In-loop Inv-loop μ-loop) → Within 1 mostSets (getD (c .before .before .args .t2 .moves) (c .before .loop .i) zeroMove .set)
 named c =
     let start = c .before .before in
-    set-number (start .args .t2 .moves) (start .args .count) (c .before .loop .i) (start .pre) (c .loop-test .taken)
+    set-within (start .args .t2 .moves) (start .args .count) (c .before .loop .i) (start .pre) (c .loop-test .taken)
 
 sub-set : tie.Need-sub-set Inv-loop μ-loop
 sub-set c = named (c .before .before) .from
@@ -59,7 +59,7 @@ loop-less : tie.Need-loop-less Inv-loop μ-loop
 loop-less c = omega (arith, c .before .before .before .before .before .before .loop-test .taken)
 
 loop-again : tie.Need-loop-again Inv-loop μ-loop
-unfolding outcomeIn
+unfolding moveOf
 loop-again c =
     let start = c .before .before .before .before .before .before .before .before in
     let loop = c .before .before .before .before .before .before .before .loop in

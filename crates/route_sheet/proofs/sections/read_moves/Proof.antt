@@ -5,9 +5,9 @@ use native.Mathlib.Omega.{arith}
 use Rattle.route_sheet.specs.Sheet.{mostMoves}
 use Rattle.route_sheet.specs.Reading.{readMove}
 use Rattle.route_sheet.specs.Answer.{zeroMove}
-use Rattle.route_sheet.specs.Inner.Parts.{moveRead}
+use Rattle.route_sheet.specs.Inner.Parts.{moveParse}
 use Rattle.route_sheet.proofs.PartLaws.{as-read}
-use Rattle.route_sheet.proofs.SectionRuns.{LinesRead, none-read, one-read, section-stuck, section-whole}
+use Rattle.route_sheet.proofs.SectionRuns.{LinesRead, none-read, one-read, section-failed, section-whole}
 use Rattle.route_sheet.proofs.sections.read_moves.Statement.{statement}
 use Rattle.route_sheet.proofs.sections.read_moves.Tie as tie
 
@@ -36,8 +36,8 @@ enum-told c = search needs
 returns : tie.Need-returns Inv-loop μ-loop
 returns c =
     let text = c .before .before .before .before .before .before .before .args .text .now in
-    section-stuck (c .before .before .before .before .loop .inv) (c .before .before .before .loop-test .taken)
-    (as-read (moveRead text) (c .before .before .read-move .ensures) (c .enum-told .given .1))
+    section-failed (c .before .before .before .before .loop .inv) (c .before .before .before .loop-test .taken)
+    (as-read (moveParse text) (c .before .before .read-move .ensures) (c .enum-told .given .1))
 
 mul-moves : tie.Need-mul-moves Inv-loop μ-loop
 mul-moves c = omega arith
@@ -56,7 +56,7 @@ loop-again c =
     let start = c .before .before .before .before .before .before .before .before in
     one-read (c .before .before .before .before .before .loop .inv) (c .before .line .given .0 .0) (c .before .line .given .0 .1 .0)
     (start .pre .moves) (c .before .before .before .before .loop-test .taken)
-    (as-read (moveRead (start .args .text .now)) (c .before .before .before .read-move .ensures) (c .before .line .given .1))
+    (as-read (moveParse (start .args .text .now)) (c .before .before .before .read-move .ensures) (c .before .line .given .1))
 
 returns-2 : tie.Need-returns-2 Inv-loop μ-loop
 returns-2 c = section-whole (c .before .loop .inv) (c .loop-test .left)

@@ -5,9 +5,9 @@ use native.Mathlib.Omega.{arith}
 use Rattle.route_sheet.specs.Sheet.{mostSets}
 use Rattle.route_sheet.specs.Reading.{readSet}
 use Rattle.route_sheet.specs.Answer.{zeroSet}
-use Rattle.route_sheet.specs.Inner.Parts.{setRead}
+use Rattle.route_sheet.specs.Inner.Parts.{setParse}
 use Rattle.route_sheet.proofs.PartLaws.{as-read}
-use Rattle.route_sheet.proofs.SectionRuns.{LinesRead, none-read, one-read, section-stuck, section-whole}
+use Rattle.route_sheet.proofs.SectionRuns.{LinesRead, none-read, one-read, section-failed, section-whole}
 use Rattle.route_sheet.proofs.sections.read_sets.Statement.{statement}
 use Rattle.route_sheet.proofs.sections.read_sets.Tie as tie
 
@@ -35,8 +35,8 @@ enum-told c = search needs
 returns : tie.Need-returns Inv-loop μ-loop
 returns c =
     let text = c .before .before .before .before .before .before .before .args .text .now in
-    section-stuck (c .before .before .before .before .loop .inv) (c .before .before .before .loop-test .taken)
-    (as-read (setRead text) (c .before .before .read-set .ensures) (c .enum-told .given .1))
+    section-failed (c .before .before .before .before .loop .inv) (c .before .before .before .loop-test .taken)
+    (as-read (setParse text) (c .before .before .read-set .ensures) (c .enum-told .given .1))
 
 mul-sets : tie.Need-mul-sets Inv-loop μ-loop
 mul-sets c = omega arith
@@ -55,7 +55,7 @@ loop-again c =
     let start = c .before .before .before .before .before .before .before .before in
     one-read (c .before .before .before .before .before .loop .inv) (c .before .line .given .0 .0) (c .before .line .given .0 .1 .0)
     (start .pre) (c .before .before .before .before .loop-test .taken)
-    (as-read (setRead (start .args .text .now)) (c .before .before .before .read-set .ensures) (c .before .line .given .1))
+    (as-read (setParse (start .args .text .now)) (c .before .before .before .read-set .ensures) (c .before .line .given .1))
 
 returns-2 : tie.Need-returns-2 Inv-loop μ-loop
 returns-2 c = section-whole (c .before .loop .inv) (c .loop-test .left)

@@ -7,11 +7,11 @@ use native.Mathlib.Omega.{arith}
 use lib.ListN.{drop}
 use Rattle.route_sheet.specs.Text.{lineEnd}
 use Rattle.route_sheet.specs.Sheet.{mostSets}
-use Rattle.route_sheet.specs.Reading.{got, readNumber}
-use Rattle.route_sheet.specs.Answer.{heldOf}
-use Rattle.route_sheet.specs.Inner.Parts.{numberRead}
-use Rattle.route_sheet.proofs.PartLaws.{as-read, number-most}
-use Rattle.route_sheet.proofs.SheetRuns.{set-count-stuck, sets-stuck, sets-held, first-read}
+use Rattle.route_sheet.specs.Reading.{parsed, readNumber}
+use Rattle.route_sheet.specs.Answer.{contentsOf}
+use Rattle.route_sheet.specs.Inner.Parts.{numberParse}
+use Rattle.route_sheet.proofs.PartLaws.{as-read, value-most}
+use Rattle.route_sheet.proofs.SheetRuns.{set-count-failed, sets-failed, all-sets-read, first-read}
 use Rattle.route_sheet.proofs.sheet.read_lines.Statement.{statement}
 use Rattle.route_sheet.proofs.sheet.read_lines.Tie as tie
 
@@ -30,8 +30,8 @@ malformed-requires c κs = search needs
 returns : tie.Need-returns
 returns c =
     let text = c .before .before .before .before .before .args .text .now in
-    let none = as-read (numberRead text) (c .before .before .before .read-number .ensures .read-is) (c .before .enum-told .given .1) in
-    c .malformed .ensures ∙ ap heldOf (set-count-stuck text none)
+    let none = as-read (numberParse text) (c .before .before .before .read-number .ensures .read-is) (c .before .enum-told .given .1) in
+    c .malformed .ensures ∙ ap contentsOf (set-count-failed text none)
 
 -- The count, and the lines after it.
 abbrev textOf : tie.After-known-told → List ℕ
@@ -43,11 +43,11 @@ setCount c = c .before .count .given .0 .0
 abbrev linesOf : tie.After-known-told → List ℕ
 linesOf c = drop (c .before .count .given .0 .1 .0) (textOf c)
 
-counted : (c : tie.After-known-told) → readNumber 1 mostSets lineEnd (textOf c) ≡ got (setCount c) (linesOf c)
-counted c = as-read (numberRead (textOf c)) (c .before .before .before .read-number .ensures .read-is) (c .before .count .given .1)
+count-read : (c : tie.After-known-told) → readNumber 1 mostSets lineEnd (textOf c) ≡ parsed (setCount c) (linesOf c)
+count-read c = as-read (numberParse (textOf c)) (c .before .before .before .read-number .ensures .read-is) (c .before .count .given .1)
 
 few : (c : tie.After-known-told) → setCount c ≤ mostSets
-few c = number-most (c .before .before .before .read-number .ensures) (c .before .count .given .1)
+few c = value-most (c .before .before .before .read-number .ensures) (c .before .count .given .1)
 
 read-sets-requires : tie.Need-read-sets-requires
 read-sets-requires c κs = few c
@@ -63,21 +63,21 @@ returns-2 c =
     let d = c .before .before .before .before .before in
     let section = c .before .before .before .before .read-sets in
     c .malformed2 .ensures
-    ∙ ap heldOf
-    (sets-stuck (textOf d) (setCount d) (linesOf d) (counted d) (section .result) (section .ensures) (c .before .before .if1 .taken))
+    ∙ ap contentsOf
+    (sets-failed (textOf d) (setCount d) (linesOf d) (count-read d) (section .result) (section .ensures) (c .before .before .if1 .taken))
 
 read-second-requires : tie.Need-read-second-requires
 read-second-requires c κs =
     let d = c .before .before .before in
     let section = c .before .before .read-sets in
-    sets-held (textOf d) (setCount d) (linesOf d) (counted d) (section .result) (section .ensures) (few d)
+    all-sets-read (textOf d) (setCount d) (linesOf d) (count-read d) (section .result) (section .ensures) (few d)
 
 returns-3 : tie.Need-returns-3
 returns-3 c =
     let e = c .before in
     let d = e .before .before .before in
     let section = e .before .before .read-sets in
-    rw (first-read (textOf d) (setCount d) (linesOf d) (counted d) (section .result) (section .ensures) (e .if1 .left))
+    rw (first-read (textOf d) (setCount d) (linesOf d) (count-read d) (section .result) (section .ensures) (e .if1 .left))
     (c .read-second .ensures)
 
 pub read-lines-spec : {M : Type 1} → statement M

@@ -7,12 +7,12 @@ use native.Mathlib.Omega.{arith}
 use lib.ListN.{drop}
 use Rattle.route_sheet.specs.Text.{lineEnd}
 use Rattle.route_sheet.specs.Sheet.{mostMoves}
-use Rattle.route_sheet.specs.Reading.{got, readNumber}
-use Rattle.route_sheet.specs.Answer.{heldOf}
-use Rattle.route_sheet.specs.Inner.Parts.{numberRead}
+use Rattle.route_sheet.specs.Reading.{parsed, readNumber}
+use Rattle.route_sheet.specs.Answer.{contentsOf}
+use Rattle.route_sheet.specs.Inner.Parts.{numberParse}
 use Rattle.route_sheet.specs.declared.sections.SetsRead.{SetsRead}
-use Rattle.route_sheet.proofs.PartLaws.{as-read, number-most}
-use Rattle.route_sheet.proofs.SheetRuns.{move-count-stuck, moves-stuck, sheet-followed, sheet-listed}
+use Rattle.route_sheet.proofs.PartLaws.{as-read, value-most}
+use Rattle.route_sheet.proofs.SheetRuns.{move-count-failed, moves-failed, sheet-followed, sheet-listed}
 use Rattle.route_sheet.proofs.sheet.read_second.Statement.{statement}
 use Rattle.route_sheet.proofs.sheet.read_second.Tie as tie
 
@@ -45,9 +45,9 @@ returns : tie.Need-returns
 returns c =
     let d = c .before .before .before in
     c .malformed .ensures
-    ∙ ap heldOf
-    (move-count-stuck (firstOf d) (textOf d)
-    (as-read {found = readNumber 1 mostMoves lineEnd (secondText d)} (numberRead (textOf d)) (d .read-number .ensures .read-is)
+    ∙ ap contentsOf
+    (move-count-failed (firstOf d) (textOf d)
+    (as-read {found = readNumber 1 mostMoves lineEnd (secondText d)} (numberParse (textOf d)) (d .read-number .ensures .read-is)
     (c .before .enum-told .given .1)))
 
 -- The count, and the lines after it.
@@ -60,11 +60,11 @@ moveCount c = c .before .count .given .0 .0
 abbrev lines : tie.After-known-told → List ℕ
 lines c = drop (c .before .count .given .0 .1 .0) (textOf (read c))
 
-counted : (c : tie.After-known-told) → readNumber 1 mostMoves lineEnd (secondText (read c)) ≡ got (moveCount c) (lines c)
-counted c = as-read (numberRead (textOf (read c))) (read c .read-number .ensures .read-is) (c .before .count .given .1)
+count-read : (c : tie.After-known-told) → readNumber 1 mostMoves lineEnd (secondText (read c)) ≡ parsed (moveCount c) (lines c)
+count-read c = as-read (numberParse (textOf (read c))) (read c .read-number .ensures .read-is) (c .before .count .given .1)
 
 few : (c : tie.After-known-told) → moveCount c ≤ mostMoves
-few c = number-most (read c .read-number .ensures) (c .before .count .given .1)
+few c = value-most (read c .read-number .ensures) (c .before .count .given .1)
 
 read-moves-requires : tie.Need-read-moves-requires
 read-moves-requires c κs = record { sets = read c .before .before .pre .few; moves = few c }
@@ -85,8 +85,8 @@ returns-2 c =
     let d = c .before .before .before .before .before in
     let section = c .before .before .before .before .read-moves in
     c .malformed2 .ensures
-    ∙ ap heldOf
-    (moves-stuck (firstOf (read d)) (textOf (read d)) (moveCount d) (lines d) (counted d) (section .result) (section .ensures)
+    ∙ ap contentsOf
+    (moves-failed (firstOf (read d)) (textOf (read d)) (moveCount d) (lines d) (count-read d) (section .result) (section .ensures)
     (c .before .before .if1 .taken))
 
 -- The count, seen from where all moves are read.
@@ -108,8 +108,8 @@ returns-3 c =
     let d = listed e in
     let section = e .before .before .before .read-moves in
     c .malformed3 .ensures
-    ∙ ap heldOf
-    (sheet-followed (firstOf (read d)) (textOf (read d)) (moveCount d) (lines d) (counted d) (section .result) (section .ensures)
+    ∙ ap contentsOf
+    (sheet-followed (firstOf (read d)) (textOf (read d)) (moveCount d) (lines d) (count-read d) (section .result) (section .ensures)
     (read d .before .before .pre) (e .before .if1 .left) (c .before .if2 .taken))
 
 returns-4 : tie.Need-returns-4
@@ -117,7 +117,7 @@ returns-4 c =
     let e = c .before .before .before in
     let d = listed e in
     let section = e .before .before .before .read-moves in
-    sheet-listed (firstOf (read d)) (textOf (read d)) (moveCount d) (lines d) (counted d) (section .result) (section .ensures)
+    sheet-listed (firstOf (read d)) (textOf (read d)) (moveCount d) (lines d) (count-read d) (section .result) (section .ensures)
     (read d .before .before .pre) (e .before .if1 .left) (c .before .before .if2 .left)
 
 pub read-second-spec : {M : Type 1} → statement M

@@ -1,6 +1,6 @@
 -- `coefficients_of` meets its contract: the operations are those of the formulas, in their order.
 use mathlib.Core.Path.{refl}
-use Rattle.motion.specs.ForceRows.Formula.{q1, q2, q3, q4}
+use Rattle.motion.specs.ForceRows.Force.{q1, q2, q3, q4}
 use Rattle.motion.proofs.force.coefficients.coefficients_of.Statement.{statement}
 use Rattle.motion.proofs.force.coefficients.coefficients_of.Tie as tie
 

@@ -3,8 +3,7 @@ use borrow.Author.Needs.{needs}
 use mathlib.Core.Path.{_≡_, ap, _∙_}
 use mir.Syntax.{w64}
 use mir.Facts.{toZ-ofZ}
-use Rattle.motion.specs.Answer.{driveKind}
-use Rattle.motion.specs.Inner.Rows.{doubledNumbers, doubledBy, uBy, forceBy}
+use Rattle.motion.specs.Inner.Rows.{driveKind, doubledNumbers, doubledBy, uBy, forceBy}
 use Rattle.motion.proofs.force.rows.row_in.Statement.{statement}
 use Rattle.motion.proofs.force.rows.row_in.Tie as tie
 

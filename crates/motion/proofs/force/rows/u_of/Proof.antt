@@ -4,7 +4,7 @@ use lib.Ieee.{ofBits}
 use mir.Syntax.{w64}
 use mir.Facts.{toZ-ofZ}
 use Rattle.motion.specs.ForceRows.Doubled.{cast}
-use Rattle.motion.specs.ForceRows.Formula.{weightedSum}
+use Rattle.motion.specs.ForceRows.Force.{weightedSum}
 use Rattle.motion.specs.Inner.Rows.{uBy}
 use Rattle.motion.proofs.ForceRows.CastLaws.{within-53, in-float}
 use Rattle.motion.proofs.force.rows.u_of.Statement.{statement}

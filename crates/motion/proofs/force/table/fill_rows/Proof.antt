@@ -22,7 +22,7 @@ abbrev μ-loop : tie.MeasureT-loop
 μ-loop table₀ displacement levels durations feedforward current₀ i₀ table current i = 16 - i
 
 levels-of-requires : tie.Need-levels-of-requires Inv-loop μ-loop
-levels-of-requires c κs = let d = c .before in omega (arith, snap-small (d .args .displacement) _ _ _ _ _ (d .pre .0))
+levels-of-requires c κs = let d = c .before in omega (arith, snap-small (d .args .displacement) _ _ (d .pre .0))
 
 durations-of-requires : tie.Need-durations-of-requires Inv-loop μ-loop
 durations-of-requires c κs = c .before .before .pre .0 .ordered
@@ -46,7 +46,7 @@ loop-holds c =
     let d = l .before .before .before in
     first-segment (d .pre .0) (l .durations-of .ensures) (levels (l .before))
     (rw (c .first-row .ensures)
-    (forces-can-run (d .args .displacement) _ _ _ _ _ (d .pre .0) (c .before .feedforward-of .ensures) _ (omega arith)
+    (forces-can-run (d .args .displacement) _ _ (d .pre .0) (c .before .feedforward-of .ensures) _ (omega arith)
     (omega (arith, d .pre .1))))
 
 segment-at-requires : tie.Need-segment-at-requires Inv-loop μ-loop
@@ -90,7 +90,7 @@ returns c =
     let l = r .before .before in
     let d = l .before .before .before in
     let whole = plan-ran (d .pre .0) (l .durations-of .ensures) (levels (l .before)) (ran c) in
-    forces-in (d .args .displacement) _ _ _ _ _ (d .pre .0) (r .before .feedforward-of .ensures) (d .pre .1)
+    forces-in (d .args .displacement) _ _ (d .pre .0) (r .before .feedforward-of .ensures) (d .pre .1)
     (rw (r .first-row .ensures) at whole)
 
 pub fill-rows-spec : {M : Type 1} → statement M

@@ -8,7 +8,7 @@ use native.Mathlib.Omega.{arith}
 use mir.Syntax.{w64}
 use mir.Facts.{toZ-ofZ}
 use Rattle.motion.specs.ForceRows.Machine.{machineAsRead, machineInRange}
-use Rattle.motion.specs.ForceRows.Table.{machineCheck}
+use Rattle.motion.specs.Tables.{machineCheck}
 use Rattle.motion.specs.Answer.{machineOf}
 use Rattle.motion.proofs.FillLaws.{short, own-refused, written}
 use Rattle.motion.proofs.force.table.write_rows.Statement.{statement}

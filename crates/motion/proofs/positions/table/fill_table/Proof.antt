@@ -21,7 +21,7 @@ abbrev μ-loop : tie.MeasureT-loop
 μ-loop table₀ displacement levels durations state₀ i₀ table state i = 16 - i
 
 levels-of-requires : tie.Need-levels-of-requires Inv-loop μ-loop
-levels-of-requires c κs = omega (arith, snap-small (c .args .displacement) _ _ _ _ _ (c .pre .0))
+levels-of-requires c κs = omega (arith, snap-small (c .args .displacement) _ _ (c .pre .0))
 
 durations-of-requires : tie.Need-durations-of-requires Inv-loop μ-loop
 durations-of-requires c κs = c .before .pre .0 .ordered
@@ -40,7 +40,7 @@ loop-holds : tie.Need-loop-holds Inv-loop μ-loop
 loop-holds c =
     let d = c .before .before .before in
     first-segment (d .pre .0) (c .before .durations-of .ensures) (levels (c .before .before))
-    (rw (c .at-rest .ensures) (positions-can-run (d .args .displacement) _ _ _ _ _ (d .pre .0) _ (omega arith) (omega (arith, d .pre .1))))
+    (rw (c .at-rest .ensures) (positions-can-run (d .args .displacement) _ _ (d .pre .0) _ (omega arith) (omega (arith, d .pre .1))))
 
 segment-at-requires : tie.Need-segment-at-requires Inv-loop μ-loop
 segment-at-requires c κs = omega arith
@@ -80,7 +80,7 @@ returns c =
     let r = c .before .before in
     let d = r .before .before .before in
     let whole = plan-ran (d .pre .0) (r .before .durations-of .ensures) (levels (r .before .before)) (ran c) in
-    positions-in (d .args .displacement) _ _ _ _ _ (d .pre .0) (d .pre .1) (rw (r .at-rest .ensures) at whole)
+    positions-in (d .args .displacement) _ _ (d .pre .0) (d .pre .1) (rw (r .at-rest .ensures) at whole)
 
 pub fill-table-spec : {M : Type 1} → statement M
 fill-table-spec =

@@ -5,7 +5,7 @@ use Prim.Native.Nat.{ℕ, _-_, _*_, _≤_}
 use lib.IntN.{ℤ, pos, natAbs}
 use lib.Signed.{_≤ℤ_}
 use Rattle.profile.specs.Profile as profile
-use Rattle.profile.specs.Widths.{ramp}
+use Rattle.profile.specs.Inner.Widths.{ramp}
 
 -- The durations of the segments, by the intervals: the paper's p, q, r, s.
 abbrev pub ofIntervals : {A : Type 0} → ((p q r s : ℕ) → A) → (a b c e : ℕ) → A

@@ -4,8 +4,12 @@ use mathlib.Core.Bool.{cond}
 use mathlib.Core.List.{List, [], _∷_, _++_}
 use Prim.Native.Nat.{ℕ, zero, suc, _+_, _-_, _*_, _≤_, min}
 use lib.Dec.{ltb}
-use lib.IntN.{ℤ, pos}
-use Rattle.profile.specs.Segments.{Sign, positive, none, negative, Segment, segment}
+use lib.IntN.{ℤ, pos, negℤ}
+use Rattle.profile.specs.Profile.{Sign, positive, none, negative, Segment, segment, level}
+
+-- The snap of size D in a segment of this sign.
+abbrev pub snapWith : Sign → ℕ → ℤ
+snapWith sign D = level sign (pos D) (negℤ (pos D))
 
 -- The samples that all intervals take: the paper's N.
 unfoldable pub span : ℕ → List ℕ → ℕ

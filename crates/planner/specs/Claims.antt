@@ -1,0 +1,56 @@
+-- What the theorems `acceptance` (demand 2), `least-is` and `interval-claim` say of the rules.
+use mathlib.Core.Logic.{_↔_}
+use mathlib.Core.Path.{_≡_}
+use Prim.Native.Nat.{ℕ, _+_, _*_, _^_, _≤_}
+use lib.IntN.{natAbs}
+use Rattle.planner.specs.Least.{least, IsLeast}
+use Rattle.planner.specs.Intervals.{p, q, r, s, N, P, J₁, A₁, V₁}
+use Rattle.planner.specs.Result.{Result, refused, given}
+use Rattle.planner.specs.Outcome.{mostSamples, mostCounts, mostBound, distanceOf, intervalsOf, samplesOf, Plans}
+use Rattle.planner.specs.declared.Move.{Move}
+use Rattle.planner.specs.declared.Plan.{Plan}
+
+-- A bound that may be sent.
+pub record BoundInRange (x : ℕ) : Type 0 where
+  pub at-least : 1 ≤ x
+  pub at-most : x ≤ mostBound
+
+-- The figures of a move are in range: none of refusals 1 to 6 applies.
+pub record InRange (m : Move) : Type 0 where
+  pub moves : 1 ≤ natAbs (m .displacement)
+  pub near : natAbs (m .displacement) ≤ mostCounts
+  pub velocity : BoundInRange (m .velocity)
+  pub acceleration : BoundInRange (m .acceleration)
+  pub jerk : BoundInRange (m .jerk)
+  pub snap : BoundInRange (m .snap)
+
+-- "A move is accepted if its figures are in range and its rule needs at most 4,096 samples, and otherwise not."
+pub record Accepted (m : Move) : Type 0 where
+  pub in-range : InRange m
+  pub short-enough : samplesOf m ≤ mostSamples
+
+-- The outcome is a plan.
+abbrev pub IsPlanned : Result ℕ Plan → Type 0
+IsPlanned (refused number) = ⊥
+IsPlanned (given plan) = Unit {0}
+
+abbrev pub AcceptanceClaim : Type 0
+AcceptanceClaim = (m : Move) (o : Result ℕ Plan) → Plans m o → IsPlanned o ↔ Accepted m
+
+-- What `least` gives is the least number, for every target and every reach with n ≤ reach n. So has each of the ten searches of a move in
+-- range, since its factor, S or one of the bounds that are carried on, is at least 1 (`ten-least`).
+abbrev pub LeastClaim : Type 0
+LeastClaim = (target : ℕ) (reach : ℕ → ℕ) → ((n : ℕ) → n ≤ reach n) → IsLeast target reach (least target reach)
+
+module _ (m : Move) where
+  -- What a rule gives for the numbers of the move.
+  abbrev pub ofMove : (ℕ → ℕ → ℕ → ℕ → ℕ → ℕ) → ℕ
+  ofMove rule = rule (distanceOf m) (m .velocity) (m .acceleration) (m .jerk) (m .snap)
+
+  -- "N = a+b+c+e = 8p+4q+2r+s", and "With N ≤ 4,096, P is at most 2^39", for every move; and the bounds carried on, of a move in range.
+  pub record IntervalClaim : Type 0 where
+    pub durations : N (intervalsOf m) ≡ 8 * p (intervalsOf m) + 4 * q (intervalsOf m) + 2 * r (intervalsOf m) + s (intervalsOf m)
+    pub product : N (intervalsOf m) ≤ mostSamples → P (intervalsOf m) ≤ 2 ^ 39
+    pub one-J₁ : InRange m → 1 ≤ ofMove J₁
+    pub one-A₁ : InRange m → 1 ≤ ofMove A₁
+    pub one-V₁ : InRange m → 1 ≤ ofMove V₁
