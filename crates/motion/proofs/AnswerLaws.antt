@@ -11,8 +11,9 @@ use Rattle.planner.proofs.ResultLaws.{refused-or-given, same-refused, same-give
 use Rattle.planner.proofs.AnswerLaws as planner
 use Rattle.motion.specs.Sampling.{sampleWith, Samples}
 use Rattle.motion.specs.ForceRows.Force.{rigid, filtered}
-use Rattle.motion.specs.Tables.{Fills}
+use Rattle.motion.specs.Tables.{Fills, FillsPositions, FillsReference, FillsForce}
 use Rattle.motion.specs.Answer.{number, sampleOutcome, tableOutcome}
+use Rattle.motion.specs.Claims.{OneAnswerClaim}
 use Rattle.motion.specs.Inner.Rows.{driveKind}
 use Rattle.motion.proofs.CountLaws.{one-count}
 use Rattle.motion.specs.declared.Sample.{Sample}
@@ -92,3 +93,13 @@ pub one-table-answer :
     → Fills m own rows row old (tableOutcome y) new′
     → (x ≡ y) × (new ≡ new′)
 one-table-answer x y h l = let same = one-table-outcome h l in (table-injective x y (same .0), same .1)
+
+pub one-motion-answer : (m : Move) → OneAnswerClaim m
+unfolding FillsPositions FillsReference FillsForce
+one-motion-answer m =
+    record {
+      sample = λ k x y. one-sample-answer x y;
+      positions = λ old new new′ x y. one-table-answer x y;
+      reference = λ old new new′ x y. one-table-answer x y;
+      force = λ machine old new new′ x y. one-table-answer x y;
+    }

@@ -6,7 +6,8 @@ use native.Mathlib.Omega.{arith}
 use lib.IntN.{ℤ, pos, negsuc, negℤ, natAbs, _+ℤ_, _-ℤ_, negℤ-negℤ}
 use Rattle.planner.specs.Quantities.{unitsPerCount}
 use Rattle.motion.specs.Sampling.{unitsOf, IsCount}
-use Rattle.motion.proofs.IntegerLaws.{size-negated, negated-difference, multiple-negated, size-difference}
+use Rattle.planner.proofs.Sign.{size-negated}
+use Rattle.motion.proofs.IntegerLaws.{negated-difference, multiple-negated, size-difference}
 
 -- both directions are alike
 same-distance : (x c : ℤ) → natAbs (negℤ x -ℤ unitsOf (negℤ c)) ≡ natAbs (x -ℤ unitsOf c)
@@ -18,8 +19,8 @@ same-distance x c =
 same-size : (c : ℤ) → natAbs (unitsOf (negℤ c)) ≡ natAbs (unitsOf c)
 same-size c = ap natAbs (multiple-negated unitsPerCount c) ∙ size-negated (unitsOf c)
 
-pub mirrored : (x c : ℤ) → IsCount x c → IsCount (negℤ x) (negℤ c)
-mirrored x c h =
+pub count-negated : (x c : ℤ) → IsCount x c → IsCount (negℤ x) (negℤ c)
+count-negated x c h =
     record {
       nearest = rw (same-distance x c) (h .nearest);
       half-away = λ q. rw (size-negated x, same-size c) (h .half-away (sym (ap (λ (n : ℕ). 2 * n) (same-distance x c)) ∙ q));
@@ -83,7 +84,7 @@ pub one-count : (x c d : ℤ) → IsCount x c → IsCount x d → c ≡ d
 one-count (pos n) c d h k = one-positive n c d h k
 one-count (negsuc n) c d h k =
     sym (negℤ-negℤ c)
-    ∙ ap negℤ (one-positive (suc n) (negℤ c) (negℤ d) (mirrored (negsuc n) c h) (mirrored (negsuc n) d k))
+    ∙ ap negℤ (one-positive (suc n) (negℤ c) (negℤ d) (count-negated (negsuc n) c h) (count-negated (negsuc n) d k))
     ∙ negℤ-negℤ d
 
 -- a count in sub-count units is at most half a count farther from zero than its position
@@ -93,4 +94,4 @@ size-positive n (negsuc q) h = absurd (other-side n q h)
 
 pub count-size : (x c : ℤ) → IsCount x c → unitsPerCount * natAbs c ≤ natAbs x + unitsPerCount
 count-size (pos n) c h = size-positive n c h
-count-size (negsuc n) c h = rw (size-negated c) at (size-positive (suc n) (negℤ c) (mirrored (negsuc n) c h))
+count-size (negsuc n) c h = rw (size-negated c) at (size-positive (suc n) (negℤ c) (count-negated (negsuc n) c h))

@@ -4,16 +4,18 @@ use mathlib.Core.List.{List, [], _∷_, _++_}
 use mathlib.Core.Path.{_≡_, refl, sym, ap, ap₂, _∙_, fun-ext}
 use Prim.Native.Nat.{ℕ, zero, suc, _+_, _≤_, _<_}
 use native.Mathlib.Omega.{arith}
-use borrow.Author.Tests.{lt-ltb, le-ltb}
+use borrow.Author.Tests.{lt-ltb, le-ltb, ltb-false}
 use lib.Dec.{ltb}
 use lib.ListN.{length, getD, drop, length-append, List·getD-append}
 use Rattle.planner.specs.Result.{Each, Result, refused, given, Check, check, firstRefusal}
-use Rattle.planner.specs.Outcome.{Plans}
+use Rattle.planner.specs.Outcome.{checks, Plans}
 use Rattle.planner.specs.Claims.{Accepted}
 use Rattle.planner.specs.declared.Move.{Move}
 use Rattle.planner.specs.declared.Plan.{Plan}
-use Rattle.planner.proofs.RefusalLaws.{Passes, all-pass}
-use Rattle.motion.specs.Tables.{rowsFrom, tableOf, tableResult, Fills}
+use Rattle.planner.proofs.Acceptance.{passed-accepted}
+use Rattle.planner.proofs.RefusalLaws.{Passes, passed, all-pass}
+use Rattle.planner.proofs.ResultLaws.{same-given}
+use Rattle.motion.specs.Tables.{rowsFrom, tableOf, tableChecks, tableResult, Fills}
 use Rattle.motion.specs.Inner.Planned.{PassedOn, RowsIn, WritesRows}
 use Rattle.motion.proofs.EntryLaws.{refused-first, own-checks}
 
@@ -28,6 +30,10 @@ unfolding rowsFrom
 row-at row x j zero k h = absurd (omega arith)
 row-at row x j (suc n) zero h = ap row (omega arith)
 row-at row x j (suc n) (suc k) h = row-at row x (suc j) n k (omega arith) ∙ ap row (omega arith)
+
+passes-parts : (xs ys : List Check) → Each Passes (xs ++ ys) → Each Passes xs × Each Passes ys
+passes-parts [] ys h = (tt, h)
+passes-parts (x ∷ xs) ys h = let parts = passes-parts xs ys (h .1) in ((h .0, parts .0), parts .1)
 
 module _ {A : Type 0} {rows : ℕ} {row : ℕ → A} {old : List A} where
   -- a plan and a table: refusal 8, the first of the entry's own, and the rows
@@ -124,3 +130,26 @@ module _ {A : Type 0} {rows : ℕ} {row : ℕ → A} {old : List A} where
             ∙ List·getD-append (rowsFrom row 0 rows) _ x k (omega (arith, length-rows row 0 rows))
             ∙ row-at row x 0 rows k l
             ∙ ap row (omega arith)
+
+    -- a table that was filled: no check applied, so all that was sent was in range
+    module _ {n : ℕ} {new : List A} (filled : Fills m own rows row old (given n) new) where
+      none-applies : Each Passes (checks m) × Each Passes (check 8 (ltb (length old) rows) ∷ own)
+      unfolding tableResult
+      none-applies =
+          passes-parts (checks m) (check 8 (ltb (length old) rows) ∷ own)
+          (passed (tableChecks m own rows (length old)) rows n (sym (filled .outcome-is)))
+
+      pub filled-accepted : Accepted m
+      filled-accepted = passed-accepted m (none-applies .0)
+
+      pub filled-room : rows ≤ length old
+      filled-room = ltb-false (length old) rows (none-applies .1 .0)
+
+      pub filled-own : Each Passes own
+      filled-own = none-applies .1 .1
+
+      pub filled-rows : n ≡ rows
+      filled-rows = same-given (filled-outcome filled-accepted filled-room filled-own filled)
+
+      pub filled-at : (x : A) (k : ℕ) → k < n → getD new k x ≡ row k
+      filled-at x k l = filled-row filled-accepted filled-room filled-own filled x k (omega (arith, filled-rows))

@@ -10,11 +10,7 @@ use lib.IntN.{ℤ, pos, negsuc, negℤ, natAbs, _+ℤ_, _-ℤ_, _*ℤ_, negℤ-+
 use lib.Signed.{_≤ℤ_, _<ℤ_}
 use mir.Syntax.{w64}
 use mir.Val.{SFits}
-
-pub size-negated : (x : ℤ) → natAbs (negℤ x) ≡ natAbs x
-size-negated (pos zero) = refl
-size-negated (pos (suc n)) = refl
-size-negated (negsuc n) = refl
+use Rattle.planner.proofs.Sign.{size-negated}
 
 pub negated-difference : (x y : ℤ) → negℤ x -ℤ negℤ y ≡ negℤ (x -ℤ y)
 negated-difference x y = sym (negℤ-+ℤ x (negℤ y))

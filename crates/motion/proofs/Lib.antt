@@ -24,6 +24,7 @@ pub mod EntryLaws
 pub mod SamplingLaws
 pub mod FillLaws
 pub mod AnswerLaws
+pub mod RefusalTheorems
 -- Demand 3, line by line, and whole.
 pub mod KeptRules
 pub mod SumsFromRest
@@ -32,4 +33,7 @@ pub mod HalfCountRule
 pub mod EndRule
 pub mod KeptLaws
 pub mod Demand3
+pub mod ExactProfile
+pub mod EitherDirection
+pub mod PlayedTable
 pub mod RuleAnswers

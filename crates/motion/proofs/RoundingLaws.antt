@@ -12,7 +12,7 @@ use mir.Syntax.{w64}
 use mir.Val.{SFits}
 use Rattle.planner.specs.Quantities.{unitsPerCount}
 use Rattle.motion.specs.Sampling.{IsCount}
-use Rattle.motion.proofs.CountLaws.{mirrored, above-half, below-half, count-size}
+use Rattle.motion.proofs.CountLaws.{count-negated, above-half, below-half, count-size}
 
 abbrev pub half : ℕ
 half = 549755813888
@@ -58,7 +58,7 @@ pub down :
 down (pos n) m h l = absurd (true≢false (sym h))
 down (negsuc n) m h l =
     subst (IsCount (negsuc n)) (one-less (suc n / unitsPerCount))
-    (mirrored (pos (suc n)) (pos (suc (suc n / unitsPerCount))) (rounds-up (suc n) (from-half m (suc n % unitsPerCount) l h)))
+    (count-negated (pos (suc n)) (pos (suc (suc n / unitsPerCount))) (rounds-up (suc n) (from-half m (suc n % unitsPerCount) l h)))
 
 pub stay :
     (x : ℤ) (t m : ℕ)
@@ -69,7 +69,7 @@ pub stay :
     → IsCount x (quotZ x (pos unitsPerCount))
 stay (pos n) t m h k u l = rounds-down n (lt-of-lt-of-le (leb-false t (n % unitsPerCount) h) u)
 stay (negsuc n) t m h k u l =
-    mirrored (pos (suc n)) (pos (suc n / unitsPerCount)) (rounds-down (suc n) (under-half m (suc n % unitsPerCount) l k))
+    count-negated (pos (suc n)) (pos (suc n / unitsPerCount)) (rounds-down (suc n) (under-half m (suc n % unitsPerCount) l k))
 
 -- no step of the rounding leaves the range
 small-quotient : (n m : ℕ) → unitsPerCount * m ≤ n + 1 → mag (negℤ (pos m)) ≤ n

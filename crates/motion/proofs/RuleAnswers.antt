@@ -7,8 +7,10 @@ use lib.IntN.{ℤ, pos}
 use lib.ListN.{length, replicate, length-replicate}
 use Rattle.planner.specs.Result.{Result, Check}
 use Rattle.planner.specs.Outcome.{samplesOf}
-use Rattle.planner.specs.Claims.{Accepted}
+use Rattle.planner.specs.Claims.{Accepted, mirrored}
 use Rattle.planner.specs.declared.Move.{Move}
+use Rattle.planner.proofs.Mirror.{mirror}
+use Rattle.planner.proofs.StarredMoves.{firstStarred, first-accepted}
 use Rattle.motion.specs.Sampling.{valuesOf, sampleWith, Samples}
 use Rattle.motion.specs.Tables.{rowsFrom, tableOf, tableResult, Fills, FillsPositions}
 use Rattle.motion.specs.Demand3.{Demand3}
@@ -51,3 +53,10 @@ module _ (m : Move) where
   rule-demand-3 h =
       demand-3 m h ruleSample (λ k l. rule-samples k) zeros positions _ (le-of-eq (sym (length-replicate rows (pos 0))))
       (rule-fills m [] rows (λ k. valuesOf m k .position) zeros)
+
+-- closed instances, forward and backward: the first of document 01's moves, and its mirror
+pub demand-3-forward : Demand3 firstStarred (ruleSample firstStarred) (positions firstStarred)
+demand-3-forward = rule-demand-3 firstStarred first-accepted
+
+pub demand-3-backward : Demand3 (mirrored firstStarred) (ruleSample (mirrored firstStarred)) (positions (mirrored firstStarred))
+demand-3-backward = rule-demand-3 (mirrored firstStarred) (mirror firstStarred .0 first-accepted)

@@ -1,7 +1,8 @@
 -- Document 01, demand 3, "Sums from rest", in the direction of X.
-use mathlib.Core.Path.{_≡_, ap, _∙_}
-use Prim.Native.Nat.{ℕ, _+_}
+use mathlib.Core.Path.{_≡_, sym, ap, ap₂, _∙_}
+use Prim.Native.Nat.{ℕ, zero, suc, _+_, _≤_, _<_}
 use native.Mathlib.Numerals.{add-one}
+use native.Mathlib.Omega.{arith}
 use lib.IntN.{ℤ, pos, _+ℤ_}
 use Rattle.planner.specs.Quantities.{along}
 use Rattle.planner.specs.Intervals.{Intervals}
@@ -52,3 +53,17 @@ module _ (X : ℤ) (t : Intervals) (D : ℕ) where
   pub position-rest : valuesAt X t D 0 .position ≡ pos 0
   unfolding valuesAt profile.position sum
   position-rest = along-zero X
+
+-- a value that starts at 0 and grows by another is its sum
+pub sums-up :
+    (N : ℕ) (f g h : ℕ → ℤ)
+    → f 0 ≡ pos 0
+    → ((k : ℕ) → k < N → f (k + 1) ≡ f k +ℤ g k)
+    → ((k : ℕ) → k ≤ N → g k ≡ h k)
+    → (k : ℕ)
+    → k ≤ N
+    → f k ≡ sum h k
+unfolding sum
+sums-up N f g h rest step same zero l = rest
+sums-up N f g h rest step same (suc k) l =
+    ap f (sym (add-one k)) ∙ step k l ∙ ap₂ (λ x y. x +ℤ y) (sums-up N f g h rest step same k (omega arith)) (same k (omega arith))

@@ -1,18 +1,19 @@
 -- Document 01, "What demand 3 says": its lines, of any function `at` that gives the values of each sample k from 0 to N, with the product P
--- and the exact profile E times P, all plain; then that what the entries give for an accepted move keeps them.
+-- and E, the exact profile times P, all plain; then that what the entries give for an accepted move keeps them.
 use mathlib.Core.List.{List}
 use mathlib.Core.Path.{_≡_}
 use Prim.Native.Nat.{ℕ, _+_, _≤_, _<_}
 use lib.IntN.{ℤ, pos, natAbs, _+ℤ_, _-ℤ_, _*ℤ_}
 use lib.ListN.{length, getD}
 use lib.Signed.{_≤ℤ_, _<ℤ_}
-use Rattle.planner.specs.Quantities.{unitsPerCount}
-use Rattle.planner.specs.Intervals.{P}
+use Rattle.planner.specs.Quantities.{unitsPerCount, along}
+use Rattle.planner.specs.Intervals.{p, q, r, s, P}
 use Rattle.planner.specs.Result.{Result, given}
-use Rattle.planner.specs.Outcome.{intervalsOf, samplesOf}
+use Rattle.planner.specs.Outcome.{distanceOf, intervalsOf, samplesOf}
 use Rattle.planner.specs.Claims.{Accepted}
 use Rattle.planner.specs.declared.Move.{Move}
-use Rattle.motion.specs.Sampling.{exactPositionTimesP, Samples}
+use Rattle.profile.specs.Profile.{segments, snapIn, sum}
+use Rattle.motion.specs.Sampling.{exactPositionTimesP, unitsOf, Samples}
 use Rattle.motion.specs.Tables.{FillsPositions}
 use Rattle.motion.specs.declared.Sample.{Sample}
 
@@ -81,3 +82,12 @@ Demand3Claim =
     → samplesOf m + 1 ≤ length old
     → FillsPositions m old o new
     → Demand3 m sample new
+
+-- "the profile with W for D": a snap of size W in the stretches.
+abbrev pub exactSnap : Move → ℕ → ℤ
+exactSnap m = let t = intervalsOf m in snapIn (segments (p t) (q t) (r t) (s t)) (distanceOf m)
+
+-- What E is: summed four times from rest, in the direction of X; and at sample N it is P·G·X.
+pub record ExactProfileClaim (m : Move) : Type 0 where
+  pub summed : (k : ℕ) → exactPositionTimesP m k ≡ along (m .displacement) (sum (sum (sum (sum (exactSnap m)))) k)
+  pub at-end : exactPositionTimesP m (samplesOf m) ≡ pos (P (intervalsOf m)) *ℤ unitsOf (m .displacement)

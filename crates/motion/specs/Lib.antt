@@ -1,8 +1,9 @@
--- The rules of document 01 in its order; then what the entries promise, and demand 3; last what only proofs and the contracts of private
--- functions cite.
+-- The rules of document 01 in its order, with what the entries promise; then what the promises come to, and demand 3; last what only
+-- proofs and the contracts of private functions cite.
 pub mod Sampling
 pub mod ForceRows
 pub mod Tables
 pub mod Answer
+pub mod Claims
 pub mod Demand3
 pub mod Inner

@@ -1,12 +1,12 @@
 -- Document 01, "The profile": the five values of a sample, and what the one-sample entry gives.
-use mathlib.Core.List.{[], _∷_, _++_}
+use mathlib.Core.List.{List, [], _∷_, _++_}
 use mathlib.Core.Path.{_≡_}
 use Prim.Native.Nat.{ℕ, _*_, _≤_, _<_}
 use lib.Dec.{ltb}
 use lib.IntN.{ℤ, pos, natAbs, _-ℤ_, _*ℤ_}
 use Rattle.planner.specs.Quantities.{unitsPerCount, along}
 use Rattle.planner.specs.Intervals.{Intervals, p, q, r, s, D}
-use Rattle.planner.specs.Result.{Result, given, check, firstRefusal}
+use Rattle.planner.specs.Result.{Result, given, Check, check, firstRefusal}
 use Rattle.planner.specs.Outcome.{distanceOf, intervalsOf, samplesOf, checks}
 use Rattle.planner.specs.declared.Move.{Move}
 use Rattle.profile.specs.Profile as profile
@@ -62,8 +62,11 @@ sampleOf v count =
 
 module _ (m : Move) (k : ℕ) where
   -- Refusals 1 to 7, then 9: "sample asked above N".
+  abbrev pub sampleChecks : List Check
+  sampleChecks = checks m ++ (check 9 (ltb (samplesOf m) k) ∷ [])
+
   unfoldable pub sampleWith : (count : ℤ) → Result ℕ Sample
-  sampleWith count = firstRefusal (checks m ++ (check 9 (ltb (samplesOf m) k) ∷ [])) (given (sampleOf (valuesOf m k) count))
+  sampleWith count = firstRefusal sampleChecks (given (sampleOf (valuesOf m k) count))
 
   -- What the one-sample entry promises of the outcome of its answer.
   pub record Samples (o : Result ℕ Sample) : Type 0 where

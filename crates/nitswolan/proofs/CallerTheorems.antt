@@ -2,6 +2,7 @@
 use mathlib.Core.List.{List}
 use mathlib.Core.Path.{_≡_, refl, sym, ap, _∙_}
 use Prim.Native.Nat.{ℕ, _+_, _≤_}
+use native.Mathlib.Nat.{le-refl, le-of-eq}
 use native.Mathlib.Omega.{arith}
 use lib.IntN.{ℤ}
 use lib.ListN.{length}
@@ -20,7 +21,7 @@ use Rattle.motion.proofs.EntryLaws.{samples-are}
 use Rattle.motion.proofs.FillLaws.{filled-outcome}
 use Rattle.motion.proofs.RuleAnswers.{ruleSample, rule-samples}
 use Rattle.nitswolan.specs.Fields.{Answers, planFields, sampleFields, tableFields}
-use Rattle.nitswolan.specs.Claims.{AcceptedClaim, CallerClaim}
+use Rattle.nitswolan.specs.Claims.{AcceptedClaim, CallerFacts, CallerClaim}
 use Rattle.nitswolan.specs.declared.plan.PlanResult.{PlanResult}
 use Rattle.nitswolan.specs.declared.sample.SampleResult.{SampleResult}
 use Rattle.nitswolan.specs.declared.table.TableResult.{TableResult}
@@ -88,3 +89,15 @@ caller-facts m x h r sample promised old new t room f =
       sample-fields = λ k l. fields k (omega (arith, l, n));
       demand-3 = claim;
     }
+
+-- The last sample's struct has the count asked for.
+pub last-count :
+    {m : Move} {x : PlanResult} {sample : ℕ → SampleResult} {t : TableResult} {table : List ℤ}
+    → CallerFacts m x sample t table
+    → sample (x .samples) .count ≡ m .displacement
+last-count {m} {x} f =
+    let last = le-of-eq (f .samples-are) in
+    ap (λ (y : SampleResult). y .count)
+    (f .sample-fields (x .samples) (le-refl (x .samples)) ∙ ap sampleFields (f .demand-3 .answered (x .samples) last))
+    ∙ ap (λ (k : ℕ). f .demand-3 .at k .count) (f .samples-are)
+    ∙ f .demand-3 .kept .count-end

@@ -5,3 +5,4 @@ pub mod OneAnswer
 -- What a caller may rely on.
 pub mod CallerTheorems
 pub mod RuleAnswers
+pub mod RefusalTheorems

@@ -6,11 +6,12 @@ use Rattle.planner.specs.Result.{Check}
 use Rattle.planner.specs.Outcome.{Plans}
 use Rattle.planner.specs.declared.Move.{Move}
 use Rattle.motion.specs.Sampling.{Samples}
-use Rattle.motion.specs.Tables.{Fills}
+use Rattle.motion.specs.Tables.{Fills, FillsPositions, FillsReference, FillsForce}
 use Rattle.motion.proofs.AnswerLaws.{one-sample-outcome, one-table-outcome}
 use Rattle.route_sheet.specs.Answer.{ReadsSheet}
 use Rattle.route_sheet.proofs.AnswerLaws.{one-reading}
 use Rattle.nitswolan.specs.Fields.{Answers, planFields, sampleFields, tableFields, sheetFields}
+use Rattle.nitswolan.specs.Claims.{OneAnswerClaim}
 use Rattle.nitswolan.specs.declared.plan.PlanResult.{PlanResult}
 use Rattle.nitswolan.specs.declared.sample.SampleResult.{SampleResult}
 use Rattle.nitswolan.specs.declared.table.TableResult.{TableResult}
@@ -24,19 +25,31 @@ same-struct :
     → x ≡ y
 same-struct {fields = fields} h l q = h .fields-are ∙ ap fields q ∙ sym (l .fields-are)
 
-pub one-plan : {m : Move} {x y : PlanResult} → Answers planFields (Plans m) x → Answers planFields (Plans m) y → x ≡ y
+one-plan : {m : Move} {x y : PlanResult} → Answers planFields (Plans m) x → Answers planFields (Plans m) y → x ≡ y
 one-plan h l = same-struct h l (h .promised .outcome-is ∙ sym (l .promised .outcome-is))
 
-pub one-sample : {m : Move} {k : ℕ} {x y : SampleResult} → Answers sampleFields (Samples m k) x → Answers sampleFields (Samples m k) y → x ≡ y
+one-sample : {m : Move} {k : ℕ} {x y : SampleResult} → Answers sampleFields (Samples m k) x → Answers sampleFields (Samples m k) y → x ≡ y
 one-sample h l = same-struct h l (one-sample-outcome (h .promised) (l .promised))
 
 -- for all three tables
-pub one-table :
+one-table :
     {A : Type 0} {m : Move} {rows : ℕ} {own : List Check} {row : ℕ → A} {old new new′ : List A} {x y : TableResult}
     → Answers tableFields (λ o. Fills m own rows row old o new) x
     → Answers tableFields (λ o. Fills m own rows row old o new′) y
     → (x ≡ y) × (new ≡ new′)
 one-table h l = let same = one-table-outcome (h .promised) (l .promised) in (same-struct h l (same .0), same .1)
 
-pub one-sheet : {text : List ℕ} {x y : SheetResult} → Answers sheetFields (ReadsSheet text) x → Answers sheetFields (ReadsSheet text) y → x ≡ y
+one-sheet : {text : List ℕ} {x y : SheetResult} → Answers sheetFields (ReadsSheet text) x → Answers sheetFields (ReadsSheet text) y → x ≡ y
 one-sheet h l = same-struct h l (one-reading (h .promised) (l .promised))
+
+pub one-struct : (m : Move) → OneAnswerClaim m
+unfolding FillsPositions FillsReference FillsForce
+one-struct m =
+    record {
+      plan = λ x y. one-plan;
+      sample = λ k x y. one-sample;
+      positions = λ old new new′ x y. one-table;
+      reference = λ old new new′ x y. one-table;
+      force = λ machine old new new′ x y. one-table;
+      sheet = λ text x y. one-sheet;
+    }

@@ -7,10 +7,12 @@ use lib.IntN.{pos}
 use lib.ListN.{length-replicate}
 use Rattle.planner.specs.Result.{Result}
 use Rattle.planner.specs.Outcome.{outcomeOf, Plans}
-use Rattle.planner.specs.Claims.{Accepted}
+use Rattle.planner.specs.Claims.{Accepted, mirrored}
 use Rattle.planner.specs.declared.Move.{Move}
 use Rattle.planner.specs.declared.Plan.{Plan}
 use Rattle.planner.proofs.Acceptance.{accepted-outcome}
+use Rattle.planner.proofs.Mirror.{mirror}
+use Rattle.planner.proofs.StarredMoves.{firstStarred, first-accepted}
 use Rattle.motion.specs.Tables.{FillsPositions}
 use Rattle.motion.specs.Sampling.{valuesOf}
 use Rattle.motion.proofs.RuleAnswers.{ruleSample, ruleResult, rule-samples, rule-fills, rows, zeros, positions}
@@ -23,6 +25,10 @@ use Rattle.nitswolan.proofs.CallerTheorems.{samples, caller-facts}
 filled-by : {O R : Type 0} (fields : O → R) {P : O → Type 0} {o : O} → P o → Answers fields P (fields o)
 filled-by fields {o = o} p = record { outcome = o; promised = p; fields-are = refl }
 
+-- the outcome of the rule's own table
+abbrev ruleRows : Move → Result ℕ ℕ
+ruleRows m = ruleResult m [] (rows m) (λ k. valuesOf m k .position) (zeros m)
+
 module _ (m : Move) (h : Accepted m) where
   abbrev plan : PlanResult
   plan = planFields (outcomeOf m)
@@ -33,15 +39,22 @@ module _ (m : Move) (h : Accepted m) where
   not-refused : plan .refusal ≡ 0
   not-refused = ap (λ (o : Result ℕ Plan). planFields o .refusal) (accepted-outcome m h)
 
-  abbrev outcome : Result ℕ ℕ
-  outcome = ruleResult m [] (rows m) (λ k. valuesOf m k .position) (zeros m)
-
-  fills : FillsPositions m (zeros m) outcome (positions m)
+  fills : FillsPositions m (zeros m) (ruleRows m) (positions m)
   unfolding FillsPositions
   fills = rule-fills m [] (rows m) (λ k. valuesOf m k .position) (zeros m)
 
-  pub rule-caller-facts : CallerFacts m plan (λ k. sampleFields (ruleSample m k)) (tableFields outcome) (positions m)
+  pub rule-caller-facts : CallerFacts m plan (λ k. sampleFields (ruleSample m k)) (tableFields (ruleRows m)) (positions m)
   rule-caller-facts =
       caller-facts m plan plans not-refused (λ k. sampleFields (ruleSample m k)) (λ k l. filled-by sampleFields (rule-samples m k))
-      (zeros m) (positions m) (tableFields outcome) (omega (arith, samples plans not-refused, length-replicate (rows m) (pos 0)))
+      (zeros m) (positions m) (tableFields (ruleRows m)) (omega (arith, samples plans not-refused, length-replicate (rows m) (pos 0)))
       (filled-by tableFields fills)
+
+-- closed instances, forward and backward: the first of document 01's moves, and its mirror
+abbrev FactsOfRule : Move → Type 0
+FactsOfRule m = CallerFacts m (planFields (outcomeOf m)) (λ k. sampleFields (ruleSample m k)) (tableFields (ruleRows m)) (positions m)
+
+pub caller-facts-forward : FactsOfRule firstStarred
+caller-facts-forward = rule-caller-facts firstStarred first-accepted
+
+pub caller-facts-backward : FactsOfRule (mirrored firstStarred)
+caller-facts-backward = rule-caller-facts (mirrored firstStarred) (mirror firstStarred .0 first-accepted)

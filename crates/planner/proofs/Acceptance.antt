@@ -1,5 +1,6 @@
 -- Demand 2: "a move is accepted if its figures are in range and its rule needs at most 4,096 samples, and otherwise not".
-use mathlib.Core.Path.{_≡_, sym, subst, _∙_}
+use mathlib.Core.Logic.{_↔_}
+use mathlib.Core.Path.{_≡_, refl, sym, subst, _∙_}
 use Prim.Native.Nat.{ℕ}
 use native.Mathlib.Nat.{pos-of-ne-zero}
 use native.Mathlib.Omega.{arith}
@@ -65,3 +66,7 @@ acceptance m o h = (
   λ p. passed-accepted m (planned-passes m o (h .outcome-is) p),
   λ k. subst IsPlanned (sym (h .outcome-is ∙ accepted-outcome m k)) tt,
 )
+
+-- of the rule's own outcome
+pub rule-accepted : (m : Move) → IsPlanned (outcomeOf m) ↔ Accepted m
+rule-accepted m = acceptance m (outcomeOf m) (record { outcome-is = refl })

@@ -1,8 +1,9 @@
--- Different answers of the planner have different outcomes.
+-- Different answers of the planner have different outcomes, so its promise leaves one.
 use mathlib.Core.Path.{_≡_, refl, sym, ap, _∙_}
 use Prim.Native.Nat.{ℕ, zero, suc, _≤_}
 use native.Mathlib.Omega.{arith}
 use Rattle.planner.specs.Outcome.{number, outcome}
+use Rattle.planner.specs.Claims.{OneAnswerClaim}
 use Rattle.planner.specs.declared.Refusal.{Refusal}
 use Rattle.planner.specs.declared.Refusal.the-variants.{NoDisplacement, DisplacementRange, VelocityRange, AccelerationRange, JerkRange, SnapRange, TooManySamples}
 use Rattle.planner.specs.declared.PlanAnswer.{PlanAnswer}
@@ -47,3 +48,6 @@ outcome-injective (Planned x) (Planned y) h = ap Planned (same-given h)
 outcome-injective (Planned x) (Refused y) h = absurd (refused-or-given (number y) x (sym h))
 outcome-injective (Refused x) (Planned y) h = absurd (refused-or-given (number x) y h)
 outcome-injective (Refused x) (Refused y) h = ap Refused (number-injective x y (same-refused h))
+
+pub one-plan-answer : OneAnswerClaim
+one-plan-answer m x y h l = outcome-injective x y (h .outcome-is ∙ sym (l .outcome-is))

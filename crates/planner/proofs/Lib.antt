@@ -10,12 +10,14 @@ pub mod CapLaws
 pub mod Sign
 pub mod DirectionLaws
 pub mod RefusalLaws
+pub mod OrderLaws
 pub mod RuleRefusals
 -- What the rules come to: laws of the intervals, and the theorems.
 pub mod BoundLaws
 pub mod ProductBound
 pub mod CarriedLaws
 pub mod Acceptance
+pub mod Mirror
 pub mod PlannedFacts
 pub mod TenLeastNumbers
 pub mod StarredMoves

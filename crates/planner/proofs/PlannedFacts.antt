@@ -35,16 +35,6 @@ module _ (m : Move) where
   rule-carried : InRange m → FromOne (ofMove m J₁) (ofMove m A₁) (ofMove m V₁)
   rule-carried h = carried-from-one _ _ _ _ _ (h .velocity .at-least) (h .acceleration .at-least) (h .jerk .at-least) (h .snap .at-least)
 
-  pub interval-claim : IntervalClaim m
-  interval-claim =
-      record {
-        durations = durations rule-ordered;
-        product = product-bound rule-ordered;
-        one-J₁ = λ h. rule-carried h .one-J₁;
-        one-A₁ = λ h. rule-carried h .one-A₁;
-        one-V₁ = λ h. rule-carried h .one-V₁;
-      }
-
   rule-bounds : InRange m → KeepsBounds m (intervalsOf m) (D (intervalsOf m) (distanceOf m))
   unfolding intervalsOf J₁ A₁ V₁
   rule-bounds h =
@@ -65,6 +55,16 @@ module _ (m : Move) where
         whole = whole _ _;
         bounds = rule-bounds (h .in-range);
       }
+
+pub interval-claim : (m : Move) → IntervalClaim m
+interval-claim m =
+    record {
+      durations = durations (rule-ordered m);
+      product = product-bound (rule-ordered m);
+      one-J₁ = λ h. rule-carried m h .one-J₁;
+      one-A₁ = λ h. rule-carried m h .one-A₁;
+      one-V₁ = λ h. rule-carried m h .one-V₁;
+    }
 
 module _ {m : Move} where
   pub planned-facts : {x : Plan} → Plans m (given x) → PlanFacts m x

@@ -1,5 +1,5 @@
 -- The size of a signed number, by its sign; and a size with a minus before it, as 64 bits hold it.
-use mathlib.Core.Path.{_≡_, sym, ap}
+use mathlib.Core.Path.{_≡_, refl, sym, ap}
 use mathlib.Core.Bool.{true, false, true≢false}
 use Prim.Native.Nat.{ℕ, zero, suc, _+_, _^_, _<_}
 use native.Mathlib.Nat.{not-suc-le-zero}
@@ -12,6 +12,11 @@ use lib.Signed.{mag, ltZ, nonNeg}
 use mir.Syntax.{w64}
 use mir.Val.{SFits, toZ}
 use mir.ValLaws.{toZ-pos}
+
+pub size-negated : (x : ℤ) → natAbs (negℤ x) ≡ natAbs x
+size-negated (pos zero) = refl
+size-negated (pos (suc n)) = refl
+size-negated (negsuc n) = refl
 
 -- −1−x, for a negative x
 pub complement : (x : ℤ) → ltZ x (pos 0) ≡ true → negsuc 0 -ℤ x ≡ pos (mag x)

@@ -1,14 +1,15 @@
--- What the theorems `acceptance` (demand 2), `least-is` and `interval-claim` say of the rules.
+-- What the theorems `acceptance` (demand 2), `one-plan-answer`, `mirror`, `least-is` and `interval-claim` say of the rules.
 use mathlib.Core.Logic.{_↔_}
 use mathlib.Core.Path.{_≡_}
 use Prim.Native.Nat.{ℕ, _+_, _*_, _^_, _≤_}
-use lib.IntN.{natAbs}
+use lib.IntN.{natAbs, negℤ}
 use Rattle.planner.specs.Least.{least, IsLeast}
 use Rattle.planner.specs.Intervals.{p, q, r, s, N, P, J₁, A₁, V₁}
 use Rattle.planner.specs.Result.{Result, refused, given}
-use Rattle.planner.specs.Outcome.{mostSamples, mostCounts, mostBound, distanceOf, intervalsOf, samplesOf, Plans}
+use Rattle.planner.specs.Outcome.{mostSamples, mostCounts, mostBound, distanceOf, intervalsOf, samplesOf, Plans, outcome}
 use Rattle.planner.specs.declared.Move.{Move}
 use Rattle.planner.specs.declared.Plan.{Plan}
+use Rattle.planner.specs.declared.PlanAnswer.{PlanAnswer}
 
 -- A bound that may be sent.
 pub record BoundInRange (x : ℕ) : Type 0 where
@@ -36,6 +37,25 @@ IsPlanned (given plan) = Unit {0}
 
 abbrev pub AcceptanceClaim : Type 0
 AcceptanceClaim = (m : Move) (o : Result ℕ Plan) → Plans m o → IsPlanned o ↔ Accepted m
+
+-- The promise leaves one answer.
+abbrev pub OneAnswerClaim : Type 0
+OneAnswerClaim = (m : Move) (x y : PlanAnswer) → Plans m (outcome x) → Plans m (outcome y) → x ≡ y
+
+-- The same move the other way.
+abbrev pub mirrored : Move → Move
+mirrored m =
+    record {
+      displacement = negℤ (m .displacement);
+      velocity = m .velocity;
+      acceleration = m .acceleration;
+      jerk = m .jerk;
+      snap = m .snap;
+    }
+
+-- Acceptance depends on the size of X alone.
+abbrev pub MirrorClaim : Type 0
+MirrorClaim = (m : Move) → Accepted m ↔ Accepted (mirrored m)
 
 -- What `least` gives is the least number, for every target and every reach with n ≤ reach n. So has each of the ten searches of a move in
 -- range, since its factor, S or one of the bounds that are carried on, is at least 1 (`ten-least`).

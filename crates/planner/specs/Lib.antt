@@ -5,6 +5,7 @@ pub mod Least
 pub mod Intervals
 pub mod Result
 pub mod Outcome
+pub mod Order
 pub mod Claims
 pub mod Starred
 pub mod Inner

@@ -5,7 +5,7 @@ use mathlib.Core.Path.{_≡_, refl, ap, _∙_, sym}
 use Prim.Native.Nat.{ℕ, _≤_}
 use borrow.Author.Tests.{eq-eqb, ne-eqb, leb-true, le-leb}
 use lib.Dec.{leb}
-use Rattle.route_sheet.specs.Reading.{parsed, failed, isDigit, digitValue, withDigit, readDigits, readNumber}
+use Rattle.route_sheet.specs.Inner.Reading.{parsed, failed, isDigit, digitValue, withDigit, readDigits, readNumber}
 
 and-parts : (t u : Bool) → t && u ≡ true → (t ≡ true) × (u ≡ true)
 and-parts true u e = (refl, e)

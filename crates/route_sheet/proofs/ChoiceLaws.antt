@@ -9,7 +9,7 @@ use native.Mathlib.Omega.{arith}
 use borrow.Author.Tests.{eq-eqb, ne-eqb}
 use lib.Dec.{eqb}
 use Rattle.route_sheet.specs.Text.{lineEnds}
-use Rattle.route_sheet.specs.Reading.{Parse, parsed, failed}
+use Rattle.route_sheet.specs.Inner.Reading.{Parse, parsed, failed}
 use Rattle.route_sheet.proofs.TextLaws.{lineEnds-append}
 use Rattle.route_sheet.proofs.FormatLaws.{ParseSound, Format, begins-none, some-value, failure-at-end}
 

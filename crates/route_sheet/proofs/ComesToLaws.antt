@@ -1,18 +1,15 @@
--- What is read of a text is what the text comes to by the meaning of the rules (`sound`), and it comes to nothing else (`complete`).
-use mathlib.Core.Bool.{Bool, true, false, cond}
+-- What is read of a text that is not too long is what the text comes to (`sound`), and a text comes to one thing only (`one-result`).
 use mathlib.Core.List.{List, [], _∷_, append-nil, nil≢cons}
 use mathlib.Core.Path.{_≡_, refl, ap, _∙_, sym, subst}
 use Prim.Native.Nat.{ℕ, _+_, _≤_}
 use native.Mathlib.Omega.{arith}
-use borrow.Author.Tests.{ltb-true, ltb-false, lt-ltb, le-ltb}
-use lib.Dec.{ltb}
 use lib.ListN.{length, take}
 use lib.Seq.{take-at}
 use Rattle.planner.specs.Result.{Result, refused}
 use Rattle.route_sheet.specs.Text.{lineEnds}
 use Rattle.route_sheet.specs.Sheet.{Sheet, SheetAllowed, sheetText}
-use Rattle.route_sheet.specs.Beginning.{LongestBeginning, NoSheet, mostBytes, ComesTo, too-long, listed, malformed-at}
-use Rattle.route_sheet.specs.Reading.{Parse, parsed, failed, readSections, wholeSheet, readSheet}
+use Rattle.route_sheet.specs.Beginning.{LongestBeginning, mostBytes, ComesTo, too-long, listed, malformed-at}
+use Rattle.route_sheet.specs.Inner.Reading.{Parse, parsed, failed, readSections, wholeSheet}
 use Rattle.route_sheet.proofs.FormatLaws.{Failure, ParseSound, not-both}
 use Rattle.route_sheet.proofs.SheetLaws.{sections-format, sheet-lines}
 use Rattle.route_sheet.proofs.StopLaws.{failure-at-spare, longest}
@@ -44,13 +41,8 @@ module _ (t : List ℕ) (fits : length t ≤ mostBytes) where
       rw (← sheet-lines x) (stops (λ y k. nil≢cons {x = b} {xs = s} (cc)) (failure-at-spare sections-format w))
   sections-sound (failed lines) e h = stops (λ x k. not-both k e) h
 
-pub sound : (t : List ℕ) → ComesTo t (readSheet t)
-unfolding readSheet
-sound t = go (ltb mostBytes (length t)) refl
-  where
-    go : (x : Bool) → ltb mostBytes (length t) ≡ x → ComesTo t (cond x (refused (12, 0)) (wholeSheet (readSections t)))
-    go true e = too-long (ltb-true mostBytes (length t) e)
-    go false e = sections-sound t (ltb-false mostBytes (length t) e) (readSections t) refl (sections-format .sound t)
+pub sound : (t : List ℕ) → length t ≤ mostBytes → ComesTo t (wholeSheet (readSections t))
+sound t fits = sections-sound t fits (readSections t) refl (sections-format .sound t)
 
 -- A text has one longest beginning.
 same-beginning : {t p q : List ℕ} → LongestBeginning t p → LongestBeginning t q → p ≡ q
@@ -61,16 +53,14 @@ same-beginning {t} {p} {q} h k =
     ∙ ap (take (length q)) (sym (h .splits) ∙ k .splits)
     ∙ take-at q (k .rest) (length q) refl
 
--- A text that is no sheet comes to one line.
-same-line :
-    {t p : List ℕ} {x : Result (ℕ × ℕ) Sheet} → length t ≤ mostBytes → NoSheet t → LongestBeginning t p → ComesTo t x →
-    refused (11, 1 + lineEnds p) ≡ x
-same-line fits no-sheet h (too-long l) = absurd (omega arith)
-same-line fits no-sheet h (listed l x-ok e) = absurd (no-sheet _ x-ok e)
-same-line fits no-sheet h (malformed-at l other k) = ap (λ (q : List ℕ). refused (11, 1 + lineEnds q)) (same-beginning h k)
-
-pub complete : (t : List ℕ) {x : Result (ℕ × ℕ) Sheet} → ComesTo t x → x ≡ readSheet t
-unfolding readSheet wholeSheet
-complete t (too-long l) = rw (lt-ltb mostBytes (length t) l)
-complete t (listed {sheet = x} l x-ok e) = rw (le-ltb mostBytes (length t) l, whole-text t x x-ok e)
-complete t (malformed-at l no-sheet h) = same-line l no-sheet h (sound t)
+pub one-result : {t : List ℕ} {x y : Result (ℕ × ℕ) Sheet} → ComesTo t x → ComesTo t y → x ≡ y
+one-result (too-long l) (too-long k) = refl
+one-result (too-long l) (listed k y-ok f) = absurd (omega arith)
+one-result (too-long l) (malformed-at k no-sheet h) = absurd (omega arith)
+one-result (listed l x-ok e) (too-long k) = absurd (omega arith)
+one-result {t} (listed {sheet = x} l x-ok e) (listed {sheet = y} k y-ok f) = cc (whole-text t x x-ok e, whole-text t y y-ok f)
+one-result (listed l x-ok e) (malformed-at k no-sheet h) = absurd (no-sheet _ x-ok e)
+one-result (malformed-at l no-sheet h) (too-long k) = absurd (omega arith)
+one-result (malformed-at l no-sheet h) (listed k y-ok f) = absurd (no-sheet _ y-ok f)
+one-result (malformed-at l no-sheet h) (malformed-at k other g) =
+    ap (λ (p : List ℕ). refused (11, 1 + lineEnds p)) (same-beginning h g)

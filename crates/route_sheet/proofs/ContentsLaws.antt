@@ -1,37 +1,15 @@
--- From the contents of a reading to what was read.
+-- The places of a reading, and the route that they list.
 use mathlib.Core.List.{List, [], _∷_, _++_}
-use mathlib.Core.Path.{_≡_, refl, sym, ap}
+use mathlib.Core.Path.{_≡_, refl}
 use Prim.Native.Nat.{ℕ, zero, suc, _-_, _≤_}
 use native.Mathlib.Omega.{arith}
 use lib.ListN.{length, take, getD, replicate, length-append, length-replicate}
 use lib.Seq.{take-at}
-use Rattle.planner.specs.Result.{Each, Result, refused, given}
-use Rattle.planner.proofs.ResultLaws.{refused-or-given, same-refused, same-given}
+use Rattle.planner.specs.Result.{Each}
 use Rattle.route_sheet.specs.Sheet.{Sheet, Within, mostSets, mostMoves, MoveAllowed, SheetAllowed}
-use Rattle.route_sheet.specs.Answer.{zeroSet, zeroMove, padded, contentsOf}
+use Rattle.route_sheet.specs.Answer.{zeroMove, padded}
 use Rattle.route_sheet.specs.Inner.Route.{RouteListed}
 use Rattle.route_sheet.specs.declared.RouteMove.{RouteMove}
-
--- A refusal among the contents is the one that was read.
-pub refused-contents : (x : Result (ℕ × ℕ) Sheet) (r : ℕ × ℕ) → contentsOf x .answer ≡ refused r → x ≡ refused r
-unfolding contentsOf
-refused-contents (refused y) r e = ap refused (same-refused e)
-refused-contents (given x) r e = absurd (refused-or-given r _ (sym e))
-
--- A sheet that was read, with n moves, and its places.
-pub record ListedSheet (x : Result (ℕ × ℕ) Sheet) (n : ℕ) : Type 0 where
-  pub sheet : Sheet
-  pub is : x ≡ given sheet
-  pub moves-are : length (sheet .moves) ≡ n
-  pub set-places : contentsOf x .sets ≡ padded mostSets zeroSet (sheet .sets)
-  pub move-places : contentsOf x .moves ≡ padded mostMoves zeroMove (sheet .moves)
-
-pub listed-sheet : (x : Result (ℕ × ℕ) Sheet) (m n : ℕ) → contentsOf x .answer ≡ given (m, n) → ListedSheet x n
-unfolding contentsOf
-listed-sheet (refused r) m n e = absurd (refused-or-given r _ e)
-listed-sheet (given x) m n e =
-    let counts = same-given e in
-    record { sheet = x; is = refl; moves-are = ap (λ (c : ℕ × ℕ). c .1) counts; set-places = refl; move-places = refl }
 
 -- The places that are padded: the first ones, and the default in the others.
 pub take-padded : {A : Type 0} (places n : ℕ) (d : A) (xs : List A) → length xs ≡ n → take n (padded places d xs) ≡ xs

@@ -8,7 +8,7 @@ use borrow.Author.Tests.{ne-eqb}
 use lib.IntN.{ℤ, pos, negsuc, negℤ, natAbs}
 use Rattle.route_sheet.specs.Text.{space, minus, lineEnds, digit, decimal, signedDecimal}
 use Rattle.route_sheet.specs.Sheet.{Within, mostDisplacement, ended}
-use Rattle.route_sheet.specs.Reading.{parsed, thenRead, readNumber, readDisplacement}
+use Rattle.route_sheet.specs.Inner.Reading.{parsed, thenRead, readNumber, readDisplacement}
 use Rattle.route_sheet.proofs.DecimalLaws.{decimal-digit, decimal-more, by-digits}
 use Rattle.route_sheet.proofs.TextLaws.{lineEnds-append}
 use Rattle.route_sheet.proofs.FormatLaws.{Format}

@@ -7,7 +7,7 @@ use lib.ListN.{length}
 use Rattle.route_sheet.specs.Text.{lineEnds}
 use Rattle.planner.specs.Result.{Each}
 use Rattle.route_sheet.specs.Sheet.{joined}
-use Rattle.route_sheet.specs.Reading.{Parse, failed, addLines, thenRead, readLines}
+use Rattle.route_sheet.specs.Inner.Reading.{Parse, failed, addLines, thenRead, readLines}
 use Rattle.route_sheet.proofs.TextLaws.{lineEnds-append}
 use Rattle.route_sheet.proofs.FormatLaws.{Format}
 

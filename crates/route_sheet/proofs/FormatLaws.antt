@@ -4,7 +4,7 @@ use mathlib.Core.Path.{_≡_, refl, sym}
 use Prim.Native.Nat.{ℕ}
 use Rattle.planner.proofs.Clash.{clash}
 use Rattle.route_sheet.specs.Text.{lineEnds}
-use Rattle.route_sheet.specs.Reading.{Parse, parsed, failed}
+use Rattle.route_sheet.specs.Inner.Reading.{Parse, parsed, failed}
 
 -- The text of an allowed value begins so.
 pub record Begins {A : Type 0} (text : A → List ℕ) (ok : A → Type 0) (beginning : List ℕ) : Type 0 where

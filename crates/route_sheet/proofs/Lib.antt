@@ -25,9 +25,8 @@ pub mod ReadingTheorems
 pub mod OwnLine
 pub mod FailureLaws
 pub mod OutsideSpan
--- One answer, and the promises by the meaning of the rules.
+-- One answer.
 pub mod AnswerLaws
-pub mod EntryTheorems
 -- The reader's code: a byte at an offset, the parts that it answers, a loop over lines, a whole sheet.
 pub mod OffsetLaws
 pub mod PartLaws

@@ -6,7 +6,7 @@ use native.Mathlib.Omega.{arith}
 use lib.IntN.{ℤ}
 use Rattle.route_sheet.specs.Text.{space, lineEnd, lineEnds, decimal}
 use Rattle.route_sheet.specs.Sheet.{Within, mostNumber, SetAllowed, MoveAllowed, ended, countLine, setLine, moveLine}
-use Rattle.route_sheet.specs.Reading.{isDigit, readNumber, readSet, readMove}
+use Rattle.route_sheet.specs.Inner.Reading.{isDigit, readNumber, readSet, readMove}
 use Rattle.route_sheet.specs.declared.BoundSet.{BoundSet}
 use Rattle.route_sheet.specs.declared.RouteMove.{RouteMove}
 use Rattle.route_sheet.proofs.TextLaws.{lineEnds-append}

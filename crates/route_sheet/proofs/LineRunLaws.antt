@@ -4,7 +4,7 @@ use mathlib.Core.Path.{_≡_, refl, ap}
 use Prim.Native.Nat.{ℕ, suc, _+_}
 use native.Mathlib.Omega.{arith}
 use lib.ListN.{length, length-append}
-use Rattle.route_sheet.specs.Reading.{Parse, parsed, failed, addLines, thenRead, readLines}
+use Rattle.route_sheet.specs.Inner.Reading.{Parse, parsed, failed, addLines, thenRead, readLines}
 
 -- The values `xs`, one line each, before what is read next.
 unfoldable pub prepend : {A : Type 0} → List A → Parse (List A) → Parse (List A)

@@ -2,7 +2,7 @@
 use mathlib.Core.List.{List}
 use mathlib.Core.Path.{_≡_, refl, _∙_, sym, subst, fun-ext}
 use Prim.Native.Nat.{ℕ}
-use Rattle.route_sheet.specs.Reading.{Parse, parsed, failed, addLines, thenRead}
+use Rattle.route_sheet.specs.Inner.Reading.{Parse, parsed, failed, addLines, thenRead}
 use Rattle.route_sheet.proofs.FormatLaws.{ParseSound, Format}
 
 -- `make` takes the allowed values of one kind to those of another, each to one with the same text.

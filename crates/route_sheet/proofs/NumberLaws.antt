@@ -8,7 +8,7 @@ use native.Mathlib.Omega.{arith}
 use borrow.Author.Tests.{ne-eqb}
 use Rattle.route_sheet.specs.Text.{lineEnd, lineEnds, digit, decimal}
 use Rattle.route_sheet.specs.Sheet.{Within, ended}
-use Rattle.route_sheet.specs.Reading.{Parse, parsed, failed, isDigit, digitValue, withDigit, readDigits, readNumber}
+use Rattle.route_sheet.specs.Inner.Reading.{Parse, parsed, failed, isDigit, digitValue, withDigit, readDigits, readNumber}
 use Rattle.route_sheet.proofs.DecimalLaws.{decimal-digit, decimal-more, decimal-with, by-digits}
 use Rattle.route_sheet.proofs.TextLaws.{lineEnds-append}
 use Rattle.route_sheet.proofs.FormatLaws.{Begins, Failure, ParseSound, Format, not-both, begins-none, failure-at-end}

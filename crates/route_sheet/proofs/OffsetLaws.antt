@@ -9,7 +9,7 @@ use lib.ListN.{length, drop, getD}
 use lib.Seq.{drop-cons}
 use Rattle.planner.specs.Quantities.{signed}
 use Rattle.route_sheet.specs.Text.{minus}
-use Rattle.route_sheet.specs.Reading.{readDisplacement}
+use Rattle.route_sheet.specs.Inner.Reading.{readDisplacement}
 use Rattle.route_sheet.specs.Inner.Parts.{readSize}
 
 pub byte-at : (text : List ℕ) (i : ℕ) → i < length text → drop i text ≡ getD text i 0 ∷ drop (i + 1) text

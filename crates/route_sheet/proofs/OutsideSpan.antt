@@ -3,7 +3,7 @@
 use mathlib.Core.Bool.{false}
 use mathlib.Core.List.{List, [], _∷_, _++_, append-nil, append-assoc}
 use mathlib.Core.Path.{_≡_, refl, sym, ap, _∙_}
-use Prim.Native.Nat.{ℕ, _+_, _≤_, _<_}
+use Prim.Native.Nat.{ℕ, _≤_, _<_}
 use native.Mathlib.Omega.{arith}
 use lib.IntN.{ℤ, natAbs}
 use lib.ListN.{length}
@@ -11,7 +11,7 @@ use Rattle.planner.specs.Result.{Each}
 use Rattle.route_sheet.specs.Text.{space, lineEnd, minus, lineEnds, decimal, signedDecimal}
 use Rattle.route_sheet.specs.Sheet.{Sheet, Within, mostSets, mostMoves, mostNumber, mostDisplacement, SetAllowed, MoveAllowed, SectionAllowed, ended, countLine, setLine, moveLine, joined, sectionText}
 use Rattle.route_sheet.specs.Beginning.{CanBegin}
-use Rattle.route_sheet.specs.Reading.{Parse, parsed, thenRead, isDigit, readNumber, readDisplacement, readSet, readMove, readSecond, readSections}
+use Rattle.route_sheet.specs.Inner.Reading.{Parse, parsed, thenRead, isDigit, readNumber, readDisplacement, readSet, readMove, readSecond, readSections}
 use Rattle.route_sheet.specs.declared.BoundSet.{BoundSet}
 use Rattle.route_sheet.specs.declared.RouteMove.{RouteMove}
 use Rattle.route_sheet.proofs.NumberLaws.{number-outside}
@@ -130,5 +130,6 @@ pub outside-span :
 outside-span text least most n next out begins =
     let rest = begins .rest in
     let whole : readSections (text ++ (decimal n ++ rest)) ≡ parsed (begins .sheet) [] =
-    ap readSections (sym (append-assoc text (decimal n) rest) ∙ sym (begins .whole)) ∙ whole-text _ (begins .sheet) (begins .allowed) refl in
+    ap readSections (sym (append-assoc text (decimal n) rest) ∙ sym (begins .whole))
+    ∙ whole-text _ (begins .sheet) (begins .allowed) refl in
     not-both whole (in-sheet n rest next out .fails)

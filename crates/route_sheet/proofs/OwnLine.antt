@@ -1,5 +1,5 @@
--- "A number that leaves its allowed span is charged to its own line": the longest beginning ends within the number, and a number has no line
--- end.
+-- "A number that leaves its allowed span is charged to its own line": the longest beginning ends within the number, and a number has no
+-- line end.
 use mathlib.Core.List.{List, _∷_, _++_, append-assoc}
 use mathlib.Core.Path.{_≡_, refl, sym, ap, subst, _∙_}
 use Prim.Native.Nat.{ℕ, _+_, _≤_}
@@ -48,5 +48,5 @@ module _ (text rest : List ℕ) (n : ℕ) (begins : CanBegin text) (cannot : Can
 
 pub own-line : OwnLineClaim
 own-line text rest n begins cannot fits =
-    let comes = sound (text ++ (decimal n ++ rest)) in
+    let comes = sound (text ++ (decimal n ++ rest)) fits in
     subst (ComesTo (text ++ (decimal n ++ rest))) (charged text rest n begins cannot fits comes) comes

@@ -1,8 +1,8 @@
--- What the code answers of a part, as an equation of the rule's reader.
+-- What the code answers of a part, as an equation of the reader.
 use mathlib.Core.List.{List}
 use mathlib.Core.Path.{_≡_, sym, _∙_, ap, subst}
 use Prim.Native.Nat.{ℕ, _≤_}
-use Rattle.route_sheet.specs.Reading.{Parse}
+use Rattle.route_sheet.specs.Inner.Reading.{Parse}
 use Rattle.route_sheet.specs.Inner.Parts.{valueOf, ReadsAs}
 use Rattle.route_sheet.specs.declared.number.NumberRead.{NumberRead}
 use Rattle.route_sheet.specs.declared.number.NumberRead.the-variants.{Number}

@@ -9,10 +9,10 @@ use Rattle.planner.specs.Result.{Result}
 use Rattle.route_sheet.specs.Text.{lineEnds}
 use Rattle.route_sheet.specs.Sheet.{Sheet, mostSets, mostMoves}
 use Rattle.route_sheet.specs.Beginning.{LongestBeginning, ComesTo, too-long, listed, malformed-at}
-use Rattle.route_sheet.specs.Reading.{linesIn, readSheet}
 use Rattle.route_sheet.specs.Answer.{zeroSet, zeroMove, padded}
 use Rattle.route_sheet.specs.Report.{field, moveOf, movesReport, sheetReport, mostReport, Reports}
-use Rattle.route_sheet.specs.Claims.{ReportFits}
+use Rattle.route_sheet.specs.Claims.{ReportFitsClaim}
+use Rattle.route_sheet.specs.Inner.Reading.{linesIn}
 use Rattle.route_sheet.specs.Inner.Output.{Puts}
 use Rattle.route_sheet.specs.Inner.Lines.{mostLine}
 use Rattle.route_sheet.specs.declared.BoundSet.{BoundSet}
@@ -20,7 +20,6 @@ use Rattle.route_sheet.specs.declared.RouteMove.{RouteMove}
 use Rattle.route_sheet.proofs.DecimalLaws.{decimal-length}
 use Rattle.route_sheet.proofs.TextLaws.{lineEnds-append}
 use Rattle.route_sheet.proofs.SheetLaws.{sheet-lines}
-use Rattle.route_sheet.proofs.ComesToLaws.{sound}
 use Rattle.route_sheet.proofs.ReportBounds.{line-length}
 use Rattle.route_sheet.proofs.ContentsLaws.{take-padded, getD-padded}
 
@@ -56,28 +55,30 @@ most-line {p = p} h =
     sym (lineEnds-append p (begin .rest)) ∙ ap lineEnds (sym (begin .whole)) ∙ sheet-lines (begin .sheet) in
     omega (arith, ends, begin .allowed .first .count .to, begin .allowed .second .count .to)
 
-pub report-fits : ReportFits
+pub report-fits : ReportFitsClaim
 unfolding sheetReport field
-report-fits text = go (sound text)
-  where
-    go : {x : Result (ℕ × ℕ) Sheet} → ComesTo text x → length (sheetReport x) ≤ mostReport
-    go (too-long l) = simp length-append (omega (arith, decimal-length 1 12 (omega arith)))
-    go (malformed-at {beginning = p} l no-sheet h) =
-        let line-most = most-line h in
-        simp length-append (omega (arith, decimal-length 1 11 (omega arith), decimal-length 2 (1 + lineEnds p) (omega arith)))
-    go (listed {sheet = x} l allowed e) =
-        let few : length (x .moves) ≤ mostMoves = allowed .second .count .to in
-        omega (arith, moves-length (x .sets) 1 (x .moves) (omega arith))
+report-fits text result (too-long l) = simp length-append (omega (arith, decimal-length 1 12 (omega arith)))
+report-fits text result (malformed-at {beginning = p} l no-sheet h) =
+    let line-most = most-line h in
+    simp length-append (omega (arith, decimal-length 1 11 (omega arith), decimal-length 2 (1 + lineEnds p) (omega arith)))
+report-fits text result (listed {sheet = x} l allowed e) =
+    let few : length (x .moves) ≤ mostMoves = allowed .second .count .to in
+    omega (arith, moves-length (x .sets) 1 (x .moves) (omega arith))
 
 -- What was put from the first place on is the report, and the places after it are as they were.
 pub reports :
-    {text old new : List ℕ} {count : ℕ} → length old ≡ mostReport → Puts old 0 (sheetReport (readSheet text)) count new →
-    Reports text old count new
-reports {text} {old} size puts =
-    let report = sheetReport (readSheet text) in
-    let fits : 0 + length report ≤ length old = omega (arith, report-fits text) in
+    {text old new : List ℕ} {count : ℕ} {result : Result (ℕ × ℕ) Sheet} → length old ≡ mostReport → ComesTo text result →
+    Puts old 0 (sheetReport result) count new → Reports text old count new
+reports {text} {old} {result = result} size comes-to puts =
+    let report = sheetReport result in
+    let fits : 0 + length report ≤ length old = omega (arith, report-fits text result comes-to) in
     let all : 0 + length report ≡ length report = omega arith in
-    record { count-is = puts .next-is ∙ all; new-is = puts .new-is ∙ sets-eq report old 0 fits ∙ rw all }
+    record {
+      result = result;
+      comes-to = comes-to;
+      count-is = puts .next-is ∙ all;
+      new-is = puts .new-is ∙ sets-eq report old 0 fits ∙ rw all;
+    }
 
 -- The bytes that are counted are there, so a caller can lend them.
 pub counted : {text old new : List ℕ} {count : ℕ} → Reports text old count new → count ≤ length new

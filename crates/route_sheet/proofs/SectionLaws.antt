@@ -7,7 +7,7 @@ use lib.ListN.{length, getD, drop}
 use Rattle.route_sheet.specs.Text.{lineEnds}
 use Rattle.planner.specs.Result.{Each}
 use Rattle.route_sheet.specs.Sheet.{joined}
-use Rattle.route_sheet.specs.Reading.{Parse, readLines}
+use Rattle.route_sheet.specs.Inner.Reading.{Parse, readLines}
 use Rattle.route_sheet.proofs.FormatLaws.{Format, some-value, nothing-written}
 use Rattle.route_sheet.proofs.SequenceLaws.{With, with-own, sequence}
 use Rattle.route_sheet.proofs.MappedFormats.{Makes, mapped, rewritten}

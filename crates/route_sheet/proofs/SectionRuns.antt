@@ -6,7 +6,7 @@ use native.Mathlib.Omega.{arith}
 use borrow.Author.Tests.{lt-ltb, le-ltb}
 use lib.ListN.{length, drop, set, replicate, length-append}
 use lib.Seq.{set-at}
-use Rattle.route_sheet.specs.Reading.{Parse, parsed, failed, readLines}
+use Rattle.route_sheet.specs.Inner.Reading.{Parse, parsed, failed, readLines}
 use Rattle.route_sheet.specs.Inner.Sections.{ValuesIn, ReadsSection}
 use Rattle.route_sheet.proofs.LineRunLaws.{prepend, prepend-none, lines-next, lines-failed, lines-done}
 

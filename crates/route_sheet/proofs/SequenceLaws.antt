@@ -4,7 +4,7 @@ use mathlib.Core.List.{List, _∷_, _++_, append-assoc}
 use mathlib.Core.Path.{_≡_, refl, ap₂, _∙_}
 use Prim.Native.Nat.{ℕ, _+_}
 use Rattle.route_sheet.specs.Text.{lineEnds}
-use Rattle.route_sheet.specs.Reading.{Parse, parsed, failed, addLines, thenRead}
+use Rattle.route_sheet.specs.Inner.Reading.{Parse, parsed, failed, addLines, thenRead}
 use Rattle.route_sheet.proofs.TextLaws.{Overlap, longer, shorter, overlap, lineEnds-append}
 use Rattle.route_sheet.proofs.FormatLaws.{Failure, WasRead, ParseSound, Format, some-value, not-both}
 

@@ -6,7 +6,7 @@ use native.Mathlib.Omega.{arith}
 use lib.ListN.{length}
 use Rattle.route_sheet.specs.Text.{lineEnds}
 use Rattle.route_sheet.specs.Sheet.{Sheet, Within, mostSets, mostMoves, SetAllowed, MoveAllowed, SheetAllowed, countLine, setLine, moveLine, joined, sectionText, sheetText}
-use Rattle.route_sheet.specs.Reading.{linesIn, readSections}
+use Rattle.route_sheet.specs.Inner.Reading.{linesIn, readSections}
 use Rattle.route_sheet.specs.declared.BoundSet.{BoundSet}
 use Rattle.route_sheet.proofs.TextLaws.{lineEnds-append}
 use Rattle.route_sheet.proofs.FormatLaws.{Format}

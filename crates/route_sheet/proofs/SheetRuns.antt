@@ -1,4 +1,4 @@
--- A whole sheet, part by part: what the rule's reader comes to after each part that the code reads.
+-- A whole sheet, part by part: what the reader comes to after each part that the code reads.
 use mathlib.Core.List.{List}
 use mathlib.Core.Path.{_≡_, refl, ap}
 use Prim.Native.Nat.{ℕ, _+_, _-_, _≤_, _<_}
@@ -9,8 +9,8 @@ use lib.Seq.{drop-cons, take-at}
 use Rattle.planner.specs.Result.{Result, refused, given}
 use Rattle.route_sheet.specs.Text.{lineEnd}
 use Rattle.route_sheet.specs.Sheet.{Sheet, mostSets, mostMoves}
-use Rattle.route_sheet.specs.Reading.{Parse, parsed, failed, addLines, thenRead, readNumber, readSet, readMove, readLines, readSecond, readSections, linesIn, wholeSheet}
 use Rattle.route_sheet.specs.Answer.{Contents, zeroSet, zeroMove, padded, contentsOf}
+use Rattle.route_sheet.specs.Inner.Reading.{Parse, parsed, failed, addLines, thenRead, readNumber, readSet, readMove, readLines, readSecond, readSections, linesIn, wholeSheet}
 use Rattle.route_sheet.specs.Inner.Sections.{ReadsSection, AllSetsRead, setsIn, readAfter}
 use Rattle.route_sheet.specs.declared.BoundSet.{BoundSet}
 use Rattle.route_sheet.specs.declared.RouteMove.{RouteMove}

@@ -5,7 +5,7 @@ use Prim.Native.Nat.{ℕ, _≤_}
 use native.Mathlib.Omega.{arith}
 use lib.ListN.{length, length-append}
 use Rattle.route_sheet.specs.Text.{lineEnds}
-use Rattle.route_sheet.specs.Reading.{Parse}
+use Rattle.route_sheet.specs.Inner.Reading.{Parse}
 use Rattle.route_sheet.proofs.TextLaws.{Overlap, longer, shorter, overlap}
 use Rattle.route_sheet.proofs.FormatLaws.{Begins, Failure, WasRead, Format}
 

@@ -6,7 +6,7 @@ use lib.IntN.{pos}
 use lib.ListN.{length, replicate}
 use Rattle.planner.specs.Result.{Result, refused, given}
 use Rattle.route_sheet.specs.Sheet.{Sheet, mostSets, mostMoves}
-use Rattle.route_sheet.specs.Reading.{readSheet}
+use Rattle.route_sheet.specs.Beginning.{ComesTo}
 use Rattle.route_sheet.specs.declared.BoundSet.{BoundSet}
 use Rattle.route_sheet.specs.declared.RouteMove.{RouteMove}
 use Rattle.route_sheet.specs.declared.SheetRefusal.{SheetRefusal}
@@ -53,6 +53,8 @@ contentsOf (given x) =
       moves = padded mostMoves zeroMove (x .moves);
     }
 
--- What the reader promises of its reading. By the meaning of the rules `readSheet` is `ComesTo` (`ExactClaim`).
+-- What the reader promises of its reading: it contains what the text comes to. A text comes to one thing only (`MeaningClaim`).
 pub record ReadsSheet (text : List ℕ) (r : SheetReading) : Type 0 where
-  pub contents-are : contents r ≡ contentsOf (readSheet text)
+  pub result : Result (ℕ × ℕ) Sheet
+  pub comes-to : ComesTo text result
+  pub contents-are : contents r ≡ contentsOf result

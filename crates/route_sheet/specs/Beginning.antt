@@ -29,8 +29,8 @@ NoSheet text = (sheet : Sheet) → SheetAllowed sheet → text ≡ sheetText she
 abbrev pub mostBytes : ℕ
 mostBytes = 65535
 
--- What a text comes to; a refusal is its number and its line, 0 where it has none. "12 comes before 11, since such a sheet is not read further." "The line in refusal 11 is one more than the line
--- ends before the first byte (or end) that cannot go on."
+-- What a text comes to; a refusal is its number and its line, 0 where it has none. "12 comes before 11, since such a sheet is not read
+-- further." "The line in refusal 11 is one more than the line ends before the first byte (or end) that cannot go on."
 pub data ComesTo (text : List ℕ) : Result (ℕ × ℕ) Sheet → Type 0 where
   too-long : mostBytes < length text → ComesTo text (refused (12, 0))
   listed : {sheet : Sheet} → length text ≤ mostBytes → SheetAllowed sheet → text ≡ sheetText sheet → ComesTo text (given sheet)

@@ -1,4 +1,5 @@
--- What only the contracts of private functions cite. No rule of the paper stands here.
+-- What only proofs and the contracts of private functions cite. No promise of an entry rests on it.
+pub mod Reading
 pub mod Parts
 pub mod Sections
 pub mod Output

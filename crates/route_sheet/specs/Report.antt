@@ -15,7 +15,7 @@ use Rattle.planner.specs.declared.Move.{Move}
 use Rattle.planner.specs.declared.Plan.{Plan}
 use Rattle.route_sheet.specs.Text.{ascii, lineEnd, decimal, signedDecimal}
 use Rattle.route_sheet.specs.Sheet.{Sheet, ended}
-use Rattle.route_sheet.specs.Reading.{readSheet}
+use Rattle.route_sheet.specs.Beginning.{ComesTo}
 use Rattle.route_sheet.specs.Answer.{zeroSet}
 use Rattle.route_sheet.specs.declared.BoundSet.{BoundSet}
 use Rattle.route_sheet.specs.declared.RouteMove.{RouteMove}
@@ -61,11 +61,14 @@ sheetReport (refused (number, line)) =
     field "sheet refused " number ++ ended lineEnd (cond (eqb number 11) (field " line " line) [])
 sheetReport (given x) = movesReport (x .sets) 1 (x .moves)
 
--- The bytes of the buffer for a report. No report is longer (`ReportFits`).
+-- The bytes of the buffer for a report. No report is longer (`ReportFitsClaim`).
 abbrev pub mostReport : ℕ
 mostReport = 32768
 
--- What the report's function promises: the count of bytes, and the buffer, whose bytes after the report stay as they were.
+-- What the report's function promises, of what the text comes to: the count of bytes, and the buffer, whose bytes after the report stay as
+-- they were.
 pub record Reports (text old : List ℕ) (count : ℕ) (new : List ℕ) : Type 0 where
-  pub count-is : count ≡ length (sheetReport (readSheet text))
-  pub new-is : new ≡ sheetReport (readSheet text) ++ drop (length (sheetReport (readSheet text))) old
+  pub result : Result (ℕ × ℕ) Sheet
+  pub comes-to : ComesTo text result
+  pub count-is : count ≡ length (sheetReport result)
+  pub new-is : new ≡ sheetReport result ++ drop (length (sheetReport result)) old

@@ -7,7 +7,7 @@ ghost use Prim.Native.Nat.{_≤_};
 ghost use lib.ListN.{drop};
 ghost use Rattle.planner.specs.Quantities.{signed};
 ghost use Rattle.route_sheet.specs.Sheet.{mostDisplacement};
-ghost use Rattle.route_sheet.specs.Reading.{readDisplacement};
+ghost use Rattle.route_sheet.specs.Inner.Reading.{readDisplacement};
 ghost use Rattle.route_sheet.specs.Inner.Parts.{readSize, displacementParse};
 
 const MINUS: u8 = b'-';

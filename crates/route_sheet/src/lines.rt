@@ -11,7 +11,7 @@ ghost use mathlib.Core.Path.{_≡_};
 ghost use Prim.Native.Nat.{_≤_};
 ghost use lib.ListN.{drop};
 ghost use Rattle.route_sheet.specs.Sheet.{mostNumber};
-ghost use Rattle.route_sheet.specs.Reading.{readSet, readMove};
+ghost use Rattle.route_sheet.specs.Inner.Reading.{readSet, readMove};
 ghost use Rattle.route_sheet.specs.Inner.Parts.{setParse, moveParse};
 
 // The largest number of 19 digits.

@@ -2,7 +2,7 @@
 ghost use mathlib.Core.Path.{_≡_};
 ghost use Prim.Native.Nat.{_≤_};
 ghost use Rattle.route_sheet.specs.Sheet.{mostNumber};
-ghost use Rattle.route_sheet.specs.Reading.{isDigit, begins, goesOn};
+ghost use Rattle.route_sheet.specs.Inner.Reading.{isDigit, begins, goesOn};
 ghost use Rattle.route_sheet.specs.Inner.Parts.{DigitsSpan, ReadsDigits, ReadsNumber};
 
 pub(crate) const SPACE: u8 = b' ';

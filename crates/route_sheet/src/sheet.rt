@@ -12,8 +12,8 @@ use crate::sections::read_moves;
 use crate::sections::read_sets;
 ghost use mathlib.Core.Path.{_≡_};
 ghost use Rattle.planner.specs.Result as result;
-ghost use Rattle.route_sheet.specs.Reading.{readSections, wholeSheet};
 ghost use Rattle.route_sheet.specs.Answer.{contents, contentsOf, numberAndLine};
+ghost use Rattle.route_sheet.specs.Inner.Reading.{readSections, wholeSheet};
 ghost use Rattle.route_sheet.specs.Inner.Sections.{AllSetsRead, readAfter};
 
 const MOST_SETS: u64 = 16;

@@ -1,9 +1,9 @@
 -- The hypotheses of `u-is-half` and `rigid-row` can be met: the first of document 01's moves, with a machine of small whole numbers, in
 -- every row.
-use mathlib.Core.Bool.{Bool, true, false, _&&_}
+use mathlib.Core.Bool.{Bool, true, false, not, _&&_}
 use mathlib.Core.List.{List, [], _∷_}
 use mathlib.Core.Logic.{inl, inr}
-use mathlib.Core.Path.{_≡_, refl, sym, subst}
+use mathlib.Core.Path.{_≡_, refl, sym, ap, subst}
 use Prim.Native.Nat.{ℕ, zero, suc, _+_, _*_, _^_, _<_}
 use native.Mathlib.Nat.{not-suc-le-zero, le-of-suc-le-suc, eq-or-lt-of-le}
 use native.Mathlib.Omega.{arith}
@@ -12,14 +12,14 @@ use lib.IntN.{ℤ, pos, natAbs, _+ℤ_, _*ℤ_}
 use lib.Ieee.{Float, fin, up, down, lt, eq, le}
 use lib.ListN.{getD, replicate}
 use lib.Ieee.Fits.{and-l, and-r}
-use Rattle.planner.specs.Quantities.{unitsPerCount, distance, along, signed}
+use Rattle.planner.specs.Quantities.{unitsPerCount as G, distance, along, signed}
 use Rattle.planner.specs.Intervals.{Intervals, interval-a, interval-b, interval-c, interval-e, a, J₁, b, A₁, c, V₁, e}
 use Rattle.planner.specs.Least.{firstFrom, least}
-use Rattle.planner.specs.Result.{firstRefusal}
+use Rattle.planner.specs.Result.{Result, firstRefusal}
 use Rattle.planner.specs.Outcome.{intervalsOf, samplesOf, outcomeOf}
 use Rattle.planner.specs.Inner.Facts.{PlanFacts}
-use Rattle.planner.specs.declared.Move.{Move}
 use Rattle.planner.proofs.PlannedFacts.{planned-facts}
+use Rattle.planner.proofs.StarredMoves.{firstStarred}
 use Rattle.profile.specs.Profile.{segments, level, snapIn, sum}
 use Rattle.profile.specs.Profile as profile
 use Rattle.motion.specs.Sampling.{valuesAt}
@@ -30,20 +30,14 @@ use Rattle.motion.specs.ForceRows.Claims.{IsWhole, IsRounded, IsWholeMac
 use Rattle.motion.specs.Tables.{machineCheck, rowNumbers, force, FillsForce}
 use Rattle.motion.specs.Inner.Planned.{plannedNumbers}
 use Rattle.motion.proofs.EntryLaws.{rows-are, numbers-are}
+use Rattle.motion.proofs.FillLaws.{filled-outcome}
 use Rattle.motion.proofs.RuleAnswers.{ruleTable, rule-fills}
 use Rattle.motion.proofs.ForceRows.Theorems.{rigid-row}
-
-abbrev G : ℕ
-G = unitsPerCount
-
--- "X = 8, V = 2G, A = S = J = G"
-abbrev pub first : Move
-first = record { displacement = pos 8; velocity = 2 * G; acceleration = G; jerk = G; snap = G }
 
 abbrev intervals : Intervals
 intervals = record { a = 1; b = 1; c = 2; e = 4 }
 
-plan : PlanFacts first (record { a = 1; b = 1; c = 2; e = 4; snap = G; shortfall = 0 })
+plan : PlanFacts firstStarred (record { a = 1; b = 1; c = 2; e = 4; snap = G; shortfall = 0 })
 unfolding outcomeOf firstRefusal samplesOf intervalsOf distance a J₁ b A₁ c V₁ e interval-a interval-b interval-c interval-e least firstFrom
 plan = planned-facts (record { outcome-is = refl })
 
@@ -116,7 +110,7 @@ all-below f (suc n) h k l =
       | inr q ↦ all-below f n (and-l (allBelow f n) (f n) h) k (le-of-suc-le-suc q)
     ]
 
-rows-within : (k : ℕ) → k < 10 → Within53 (expressionOfU whole (rowNumbers first k))
+rows-within : (k : ℕ) → k < 10 → Within53 (expressionOfU whole (rowNumbers firstStarred k))
 unfolding computed
 rows-within k l =
     subst (λ (w : ℕ → Doubled ℤ). Within53 (expressionOfU whole (w k))) (numbers-are plan)
@@ -127,12 +121,13 @@ abbrev pub ten : List Float
 ten = replicate 10 plusZero
 
 abbrev pub filledTen : List Float
-filledTen = ruleTable first (machineCheck machine ∷ []) (samplesOf first + 2) (force first machine) ten
+filledTen = ruleTable firstStarred (machineCheck machine ∷ []) (samplesOf firstStarred + 2) (force firstStarred machine) ten
 
-pub exact-example : (k : ℕ) → k < 10 → IsRounded (getD filledTen k plusZero) (sumInU wholes whole (rowNumbers first k)) (2 * 7)
+pub exact-example : (k : ℕ) → k < 10 → IsRounded (getD filledTen k plusZero) (sumInU wholes whole (rowNumbers firstStarred k)) (2 * 7)
 unfolding whole FillsForce
 exact-example k l =
-    let rows : samplesOf first + 2 ≡ 10 = sym (rows-are plan 2) in
-    let filled = rule-fills first (machineCheck machine ∷ []) (samplesOf first + 2) (force first machine) ten in
-    rigid-row first (plan .accepted) machine whole is-whole in-range refl ten filledTen _ (rw rows (lit≤ tt)) filled k (rw rows l)
-    (rows-within k l)
+    let rows : samplesOf firstStarred + 2 ≡ 10 = sym (rows-are plan 2) in
+    let filled = rule-fills firstStarred (machineCheck machine ∷ []) (samplesOf firstStarred + 2) (force firstStarred machine) ten in
+    let ten-rows = filled-outcome (plan .accepted) (rw rows (lit≤ tt)) (ap not in-range, tt) filled in
+    rigid-row firstStarred machine whole is-whole refl ten filledTen (samplesOf firstStarred + 2)
+    (subst (λ (o : Result ℕ ℕ). FillsForce firstStarred machine ten o filledTen) ten-rows filled) k (rw rows l) (rows-within k l) plusZero

@@ -14,10 +14,11 @@ use Rattle.motion.specs.ForceRows.Machine.{Machine, plusZero, machineAsR
 use Rattle.motion.specs.ForceRows.Doubled.{Doubled}
 use Rattle.motion.specs.ForceRows.Force.{u, alpha, beta, rigid, filtered, driveOf, filteredForce, forceOf, forceRow}
 use Rattle.motion.specs.Inner.Rows.{Castable}
-use Rattle.motion.specs.Tables.{rowNumbers, force}
+use Rattle.motion.specs.Tables.{rowNumbers, force, FillsForce}
 use Rattle.motion.specs.ForceRows.Claims.{FiniteClaim}
+use Rattle.motion.proofs.FillLaws.{filled-accepted, filled-rows, filled-at}
 use Rattle.motion.proofs.ForceRows.MachineLaws.{InRange, in-range, stiffness-positive}
-use Rattle.motion.proofs.ForceRows.Theorems.{rows-castable}
+use Rattle.motion.proofs.ForceRows.Theorems.{rows-castable, filled-range}
 use Rattle.motion.proofs.ForceRows.SizeLaws.{_⪯_, ⪯-closed, bound, representable}
 use Rattle.motion.proofs.ForceRows.BoundedFloats.{sum-bound, product-bound, quotient-bound}
 use Rattle.motion.proofs.ForceRows.BoundedMachine.{BoundedMachine, bounded-machine, u-bound}
@@ -71,6 +72,9 @@ module _ (m : Machine Float) (w : ℕ → Doubled ℤ) (range : InRange m) (cast
           filtered-bound a (beta-bound (b .k12) (b .c) (b .stiff) p q) bounds k l .is-finite
 
 pub rows-finite : FiniteClaim
-unfolding force
-rows-finite m h machine range k l =
-    row-finite (machineAsRead machine) (rowNumbers m) (in-range (machineAsRead machine) range) (rows-castable h) k (omega (arith, h .short-enough))
+unfolding FillsForce force
+rows-finite m machine old new rows filled k l absent =
+    let h = filled-accepted filled in
+    rw (filled-at filled absent k l)
+    (row-finite (machineAsRead machine) (rowNumbers m) (in-range (machineAsRead machine) (filled-range machine filled)) (rows-castable h) k
+    (omega (arith, h .short-enough, filled-rows filled)))

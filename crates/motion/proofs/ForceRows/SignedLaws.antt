@@ -9,7 +9,8 @@ use lib.Dec.{ltb}
 use lib.IntN.{pos, negℤ, natAbs, _+ℤ_, _*ℤ_, negℤ-+ℤ, negℤ-negℤ, *ℤ-comm, zero-*ℤ, pos-ne-negsuc}
 use lib.Ieee.{unlike}
 use Rattle.planner.specs.Quantities.{signed}
-use Rattle.motion.proofs.IntegerLaws.{size-negated, negated-difference, multiple-negated, difference}
+use Rattle.planner.proofs.Sign.{size-negated}
+use Rattle.motion.proofs.IntegerLaws.{negated-difference, multiple-negated, difference}
 
 pub size-signed : (s : Bool) (a : ℕ) → natAbs (signed s a) ≡ a
 unfolding signed

@@ -1,26 +1,27 @@
--- The claims on exactness of specs/ForceRows/Claims.antt, and that minus zeros change nothing. They rest on the rules (planner), on the laws of the profile (profile)
--- and on the promise of the entry alone.
-use mathlib.Core.Bool.{Bool, true, false, not}
-use mathlib.Core.List.{List}
-use mathlib.Core.Path.{_≡_, refl, sym, ap, subst, _∙_}
+-- The claims on exactness of specs/ForceRows/Claims.antt, and that minus zeros change nothing. They rest on the rules (planner), on the laws
+-- of the profile (profile) and on the promise of the entry alone.
+use mathlib.Core.Bool.{Bool, true, false}
+use mathlib.Core.List.{List, [], _∷_}
+use mathlib.Core.Path.{_≡_, refl, sym, subst, _∙_}
 use Prim.Native.Nat.{ℕ, _*_, _<_}
+use borrow.Author.Tests.{not-false}
 use lib.Dec.{T, lit<}
 use lib.IntN.{ℤ, pos, natAbs}
 use lib.Ieee.{Float, fin, up, down, eq}
 use lib.Ieee.Positive.{positive, value-pos}
 use Rattle.planner.specs.Quantities.{signed}
-use Rattle.planner.specs.Result.{Result}
+use Rattle.planner.specs.Result.{Result, given}
 use Rattle.planner.specs.Claims.{Accepted}
 use Rattle.planner.specs.declared.Move.{Move}
 use Rattle.planner.proofs.PlannedFacts.{rule-facts}
-use Rattle.motion.specs.ForceRows.Machine.{Machine, plusZero, asRead, machineAsRead}
+use Rattle.motion.specs.ForceRows.Machine.{Machine, plusZero, asRead, machineAsRead, machineInRange}
 use Rattle.motion.specs.ForceRows.Doubled.{Doubled}
 use Rattle.motion.specs.ForceRows.Force.{sumInU, q1, q2, q3, q4, weightedSum}
 use Rattle.motion.specs.ForceRows.Claims.{IsWhole, inWholes, Within53, HalfSumClaim, RigidClaim}
 use Rattle.motion.specs.Inner.Rows.{Castable}
-use Rattle.motion.specs.Tables.{rowNumbers, force, FillsForce}
+use Rattle.motion.specs.Tables.{machineCheck, rowNumbers, force, Fills, FillsForce}
 use Rattle.motion.proofs.EntryLaws.{within-range, numbers-are}
-use Rattle.motion.proofs.FillLaws.{filled-row}
+use Rattle.motion.proofs.FillLaws.{filled-accepted, filled-own, filled-at}
 use Rattle.motion.proofs.AnswerLaws.{one-table-outcome}
 use Rattle.motion.proofs.ForceRows.DoubledLaws as doubled
 use Rattle.motion.proofs.ForceRows.WholeFloats.{read-whole-machine}
@@ -53,13 +54,21 @@ above-zero p h = by-form (λ x z. T (positive x) → (z ≡ pos (natAbs z)) × (
     form false m e a v p = (refl, value-pos (fin false m e) a 1 p (lit< tt) (refl, v))
     form true m e a v p = absurd p
 
+-- what a filled table says of the machine
+pub filled-range :
+    {m : Move} (machine : Machine Float) {rows n : ℕ} {row : ℕ → Float} {old new : List Float}
+    → Fills m (machineCheck machine ∷ []) rows row old (given n) new
+    → machineInRange (machineAsRead machine) ≡ true
+filled-range machine filled = not-false _ (filled-own filled .0)
+
 pub rigid-row : RigidClaim
 unfolding FillsForce force Within53 inWholes sumInU weightedSum q1 q2 q3 q4
-rigid-row m h machine whole is range rigid old new rows room filled k l within =
-    let row = filled-row h room (ap not range, tt) filled plusZero k l in
+rigid-row m machine whole is rigid old new rows filled k l within absent =
     let read = read-whole-machine is in
-    let c = above-zero (stiffness-positive (machineAsRead machine) (in-range (machineAsRead machine) range)) (read .c) in
-    rw row (rigid-exact (machineAsRead machine) whole (rowNumbers m) k read (rows-castable h k) within rigid (c .0) (c .1))
+    let range = in-range (machineAsRead machine) (filled-range machine filled) in
+    let c = above-zero (stiffness-positive (machineAsRead machine) range) (read .c) in
+    rw (filled-at filled absent k l)
+    (rigid-exact (machineAsRead machine) whole (rowNumbers m) k read (rows-castable (filled-accepted filled) k) within rigid (c .0) (c .1))
 
 abbrev minusZero : Float
 minusZero = fin true 0 (pos 0)

@@ -1,24 +1,23 @@
 -- Document 01, "Force rows": where the rows are exact, and that each is finite. The theorems are `u-is-half`, `rigid-row` and `rows-finite`;
 -- `exact-example` shows that the hypotheses of exactness can be met.
-use mathlib.Core.Bool.{Bool, true}
+use mathlib.Core.Bool.{Bool}
 use mathlib.Core.List.{List}
 use mathlib.Core.Path.{_≡_}
-use Prim.Native.Nat.{ℕ, _+_, _*_, _^_, _≤_, _<_}
+use Prim.Native.Nat.{ℕ, _*_, _^_, _≤_, _<_}
 use lib.Dec.{T}
 use lib.IntN.{ℤ, pos, natAbs, _+ℤ_, _*ℤ_}
 use lib.Ieee.{Float, binary64, round}
 use lib.Ieee.Exact.{HasValue}
 use lib.Ieee.Scale.{finite}
-use lib.ListN.{length, getD}
+use lib.ListN.{getD}
 use Rattle.planner.specs.Quantities.{signed}
-use Rattle.planner.specs.Result.{Result}
-use Rattle.planner.specs.Outcome.{samplesOf}
+use Rattle.planner.specs.Result.{given}
 use Rattle.planner.specs.Claims.{Accepted}
 use Rattle.planner.specs.declared.Move.{Move}
-use Rattle.motion.specs.ForceRows.Machine.{Machine, mapMachine, plusZero, machineAsRead, machineInRange}
+use Rattle.motion.specs.ForceRows.Machine.{Machine, mapMachine, machineAsRead}
 use Rattle.motion.specs.ForceRows.Doubled.{Doubled, mapDoubled}
 use Rattle.motion.specs.ForceRows.Force.{Arithmetic, wholes, sumInU, u}
-use Rattle.motion.specs.Tables.{rowNumbers, force, FillsForce}
+use Rattle.motion.specs.Tables.{rowNumbers, FillsForce}
 
 -- The float x is z/n and nothing is lost. Either zero is 0.
 pub record IsFraction (x : Float) (z : ℤ) (n : ℕ) : Type 0 where
@@ -80,23 +79,22 @@ HalfSumClaim =
     → (k : ℕ) → Within53 (expressionOfU whole (rowNumbers m k))
     → IsHalf (u (machineAsRead machine) (rowNumbers m) k) (sumInU wholes whole (rowNumbers m k))
 
--- Hence row k of every table that is filled for a rigid drive is that half-sum divided by c, rounded once.
+-- Hence row k of every table that is filled for a rigid drive is that half-sum divided by c, rounded once. Whatever an absent place counts
+-- as, place k is there.
 abbrev pub RigidClaim : Type 0
 RigidClaim =
-    (m : Move) → Accepted m
-    → (machine : Machine Float) (whole : Machine ℤ) → IsWholeMachine machine whole
-    → machineInRange (machineAsRead machine) ≡ true
+    (m : Move) (machine : Machine Float) (whole : Machine ℤ)
+    → IsWholeMachine machine whole
     → whole .k12 ≡ pos 0
-    → (old new : List Float) (o : Result ℕ ℕ)
-    → samplesOf m + 2 ≤ length old
-    → FillsForce m machine old o new
-    → (k : ℕ) → k < samplesOf m + 2 → Within53 (expressionOfU whole (rowNumbers m k))
-    → IsRounded (getD new k plusZero) (sumInU wholes whole (rowNumbers m k)) (2 * natAbs (whole .c))
+    → (old new : List Float) (rows : ℕ)
+    → FillsForce m machine old (given rows) new
+    → (k : ℕ) → k < rows → Within53 (expressionOfU whole (rowNumbers m k))
+    → (absent : Float) → IsRounded (getD new k absent) (sumInU wholes whole (rowNumbers m k)) (2 * natAbs (whole .c))
 
--- Every row of an accepted move and a machine in range is a finite number: no NaN and no infinity reaches the drive.
+-- Every row of every filled table is a finite number: no NaN and no infinity reaches the drive.
 abbrev pub FiniteClaim : Type 0
 FiniteClaim =
-    (m : Move) → Accepted m
-    → (machine : Machine Float) → machineInRange (machineAsRead machine) ≡ true
-    → (k : ℕ) → k < samplesOf m + 2
-    → T (finite (force m machine k))
+    (m : Move) (machine : Machine Float) (old new : List Float) (rows : ℕ)
+    → FillsForce m machine old (given rows) new
+    → (k : ℕ) → k < rows
+    → (absent : Float) → T (finite (getD new k absent))

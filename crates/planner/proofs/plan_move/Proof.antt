@@ -11,7 +11,7 @@ use lib.IntN.{natAbs}
 use lib.ListN.{drop}
 use Rattle.planner.specs.Quantities.{distance, unitsPerCount}
 use Rattle.planner.specs.Result.{Result, given}
-use Rattle.planner.specs.Outcome.{outOfRange, checks, distanceOf, intervalsOf, samplesOf, planOf, Plans}
+use Rattle.planner.specs.Outcome.{mostCounts, outOfRange, checks, distanceOf, intervalsOf, samplesOf, planOf, Plans}
 use Rattle.planner.specs.declared.Move.{Move}
 use Rattle.planner.specs.declared.Plan.{Plan}
 use Rattle.planner.specs.Inner.Capped.{planWithin}
@@ -53,7 +53,9 @@ past-1 c p g = plans (skip (ne-eqb _ _ (λ h. c .if1 .left (size (c .before) ∙
 
 past-2 : (c : tie.Else2) → Past 2 (c .before .before .before .before .args .m)
 unfolding Past
-past-2 c p g = past-1 (c .before) p (skip (le-ltb _ _ (rw (size (c .before .before)) at (c .if2 .left))) g)
+past-2 c p g =
+    past-1 (c .before) p
+    (skip (le-ltb mostCounts (natAbs (c .before .before .before .before .args .m .displacement)) (omega (arith, size (c .before .before)))) g)
 
 past-3 : (c : tie.Else3) → Past 3 (c .before .before .before .before .before .before .args .m)
 unfolding Past
@@ -79,7 +81,9 @@ returns c = plans (stop (eq-eqb _ _ (sym (size (c .before)) ∙ c .if1 .taken)))
 
 returns-2 : tie.Need-returns-2
 unfolding Past
-returns-2 c = past-1 (c .before) _ (stop (lt-ltb _ _ (rw (size (c .before .before)) at (c .if2 .taken))))
+returns-2 c =
+    past-1 (c .before) _
+    (stop (lt-ltb mostCounts (natAbs (c .before .before .before .before .args .m .displacement)) (omega (arith, size (c .before .before)))))
 
 out-of-range-requires : tie.Need-out-of-range-requires
 out-of-range-requires c κs = search needs

@@ -8,7 +8,7 @@ use lib.ListN.{drop}
 use Rattle.planner.specs.Quantities.{signed}
 use Rattle.route_sheet.specs.Text.{space}
 use Rattle.route_sheet.specs.Sheet.{mostNumber, mostDisplacement}
-use Rattle.route_sheet.specs.Reading.{Parse, parsed, failed, thenRead, readDigits, readNumber}
+use Rattle.route_sheet.specs.Inner.Reading.{Parse, parsed, failed, thenRead, readDigits, readNumber}
 use Rattle.route_sheet.specs.declared.BoundSet.{BoundSet}
 use Rattle.route_sheet.specs.declared.RouteMove.{RouteMove}
 use Rattle.route_sheet.specs.declared.number.NumberRead.{NumberRead}

@@ -1,4 +1,4 @@
--- A section that is read: its places, padded as far as lines were read, and what the rule's reader finds there.
+-- A section that is read: its places, padded as far as lines were read, and what the reader finds there.
 use mathlib.Core.Bool.{cond}
 use mathlib.Core.List.{List}
 use mathlib.Core.Path.{_≡_}
@@ -6,8 +6,8 @@ use Prim.Native.Nat.{ℕ, _+_, _≤_}
 use lib.Dec.{ltb}
 use lib.ListN.{length, take, drop}
 use Rattle.route_sheet.specs.Sheet.{Sheet, mostSets, mostMoves}
-use Rattle.route_sheet.specs.Reading.{Parse, parsed, failed, addLines, readLines, readSet, readMove, readSecond}
 use Rattle.route_sheet.specs.Answer.{zeroSet, zeroMove, padded}
+use Rattle.route_sheet.specs.Inner.Reading.{Parse, parsed, failed, addLines, readLines, readSet, readMove, readSecond}
 use Rattle.route_sheet.specs.declared.BoundSet.{BoundSet}
 use Rattle.route_sheet.specs.declared.sections.SetsRead.{SetsRead}
 use Rattle.route_sheet.specs.declared.sections.MovesRead.{MovesRead}

@@ -31,7 +31,7 @@ abbrev stateOf : ℤ → Plan → ℕ → State
 stateOf X plan k = directed X (intervalsIn plan) (plan .snap) k
 
 levels-of-requires : tie.Need-levels-of-requires
-levels-of-requires c κs = snap-small (c .args .displacement) _ _ (c .pre .0)
+levels-of-requires c κs = omega (arith, snap-small (c .args .displacement) _ _ (c .pre .0))
 
 -- the snap with the levels that were found
 levels :

@@ -32,7 +32,7 @@ add-if1-3 : tie.Need-add-if1-3
 add-if1-3 c = search needs
 
 returns : tie.Need-returns
-returns c = too-many-samples _ _ _ _ _ _ (c .before .find-intervals .ensures) (c .if1 .taken)
+returns c = too-many-samples _ _ _ _ _ _ (c .before .find-intervals .ensures) (omega arith)
 
 mul-divide : tie.Need-mul-divide
 mul-divide c = omega (arith, mul-le-mul (small c .a) (small c .b))
@@ -52,7 +52,7 @@ returns-2 : tie.Need-returns-2
 returns-2 c =
     let at-plan = c .before in
     rw (c .divide .ensures .0, c .divide .ensures .1)
-    (planned-within _ _ _ _ _ _ (at-plan .before .find-intervals .ensures) (at-plan .if1 .left))
+    (planned-within _ _ _ _ _ _ (at-plan .before .find-intervals .ensures) (omega arith))
 
 pub plan-in-range-spec : {M : Type 1} → statement M
 plan-in-range-spec =

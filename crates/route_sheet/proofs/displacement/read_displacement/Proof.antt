@@ -2,7 +2,7 @@
 use borrow.Author.Needs.{needs}
 use mathlib.Core.Path.{sym, _∙_}
 use lib.ListN.{drop-of-length-le}
-use Rattle.route_sheet.specs.Reading.{readDisplacement}
+use Rattle.route_sheet.specs.Inner.Reading.{readDisplacement}
 use Rattle.route_sheet.proofs.OffsetLaws.{byte-at, with-minus, no-minus}
 use Rattle.route_sheet.proofs.displacement.read_displacement.Statement.{statement}
 use Rattle.route_sheet.proofs.displacement.read_displacement.Tie as tie

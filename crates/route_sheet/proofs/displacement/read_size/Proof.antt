@@ -2,7 +2,7 @@
 use borrow.Author.Needs.{needs}
 use mir.Facts.{toZ-ofZ}
 use mir.Syntax.{w64}
-use Rattle.route_sheet.specs.Reading.{addLines, thenRead}
+use Rattle.route_sheet.specs.Inner.Reading.{addLines, thenRead}
 use Rattle.route_sheet.specs.Inner.Parts.{numberParse}
 use Rattle.route_sheet.proofs.PartLaws.{as-read, value-most}
 use Rattle.route_sheet.proofs.displacement.read_size.Statement.{statement}

@@ -7,7 +7,7 @@ use mir.Facts.{toZ-ofZ}
 use mir.Syntax.{w64}
 use mir.Val.{SFits}
 use lib.ListN.{drop}
-use Rattle.route_sheet.specs.Reading.{parsed, addLines, thenRead, readDisplacement, readMove}
+use Rattle.route_sheet.specs.Inner.Reading.{parsed, addLines, thenRead, readDisplacement, readMove}
 use Rattle.route_sheet.specs.Inner.Parts.{numberParse, displacementParse}
 use Rattle.route_sheet.proofs.PartLaws.{as-read}
 use Rattle.route_sheet.proofs.lines.read_move.Statement.{statement}

@@ -6,7 +6,7 @@ use Prim.Native.Nat.{ℕ}
 use lib.ListN.{drop}
 use Rattle.route_sheet.specs.Text.{space}
 use Rattle.route_sheet.specs.Sheet.{mostNumber}
-use Rattle.route_sheet.specs.Reading.{parsed, addLines, thenRead, readNumber, readSet}
+use Rattle.route_sheet.specs.Inner.Reading.{parsed, addLines, thenRead, readNumber, readSet}
 use Rattle.route_sheet.specs.Inner.Parts.{numberParse}
 use Rattle.route_sheet.proofs.PartLaws.{as-read}
 use Rattle.route_sheet.proofs.lines.read_set.Statement.{statement}

@@ -3,7 +3,7 @@ use borrow.Author.Needs.{needs}
 use borrow.Author.Tests.{not-true, not-false}
 use mathlib.Core.Bool.{true, false}
 use mathlib.Core.Path.{_≡_, sym, _∙_}
-use Rattle.route_sheet.specs.Reading.{isDigit, digitValue}
+use Rattle.route_sheet.specs.Inner.Reading.{isDigit, digitValue}
 use Rattle.route_sheet.proofs.ByteLaws.{test-false, no-digit, digit-from}
 use Rattle.route_sheet.proofs.number.begins_number.Statement.{statement}
 use Rattle.route_sheet.proofs.number.begins_number.Tie as tie

@@ -6,7 +6,7 @@ use mathlib.Core.Path.{_≡_, refl, sym, _∙_}
 use Prim.Native.Nat.{ℕ, _-_, _*_, _≤_, _<_}
 use native.Mathlib.Omega.{arith}
 use lib.Dec.{leb}
-use Rattle.route_sheet.specs.Reading.{isDigit, digitValue, goesOn, withDigit}
+use Rattle.route_sheet.specs.Inner.Reading.{isDigit, digitValue, goesOn, withDigit}
 use Rattle.route_sheet.proofs.ByteLaws.{Passes, test-false, no-digit, digit-from}
 use Rattle.route_sheet.proofs.number.goes_on.Statement.{statement}
 use Rattle.route_sheet.proofs.number.goes_on.Tie as tie

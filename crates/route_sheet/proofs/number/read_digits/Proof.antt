@@ -6,7 +6,7 @@ use mathlib.Core.Path.{_≡_, refl, sym, _∙_}
 use Prim.Native.Nat.{ℕ, _-_, _≤_}
 use native.Mathlib.Omega.{arith}
 use lib.ListN.{length, drop, getD, drop-of-length-le}
-use Rattle.route_sheet.specs.Reading.{withDigit, readDigits}
+use Rattle.route_sheet.specs.Inner.Reading.{withDigit, readDigits}
 use Rattle.route_sheet.proofs.ByteLaws.{Passes, passes, not-passes, digits-end, digits-next, digits-stop}
 use Rattle.route_sheet.proofs.OffsetLaws.{byte-at}
 use Rattle.route_sheet.proofs.number.read_digits.Statement.{statement}

@@ -5,7 +5,7 @@ use mathlib.Core.Path.{sym, _∙_}
 use Prim.Native.Nat.{ℕ}
 use native.Mathlib.Omega.{arith}
 use lib.ListN.{getD, drop-of-length-le}
-use Rattle.route_sheet.specs.Reading.{digitValue, readNumber}
+use Rattle.route_sheet.specs.Inner.Reading.{digitValue, readNumber}
 use Rattle.route_sheet.proofs.ByteLaws.{Passes, passes, not-passes, number-start, number-stop}
 use Rattle.route_sheet.proofs.OffsetLaws.{byte-at}
 use Rattle.route_sheet.proofs.number.read_number.Statement.{statement}

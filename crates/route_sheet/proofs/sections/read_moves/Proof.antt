@@ -3,8 +3,8 @@ use borrow.Author.Needs.{needs}
 use Prim.Native.Nat.{_-_}
 use native.Mathlib.Omega.{arith}
 use Rattle.route_sheet.specs.Sheet.{mostMoves}
-use Rattle.route_sheet.specs.Reading.{readMove}
 use Rattle.route_sheet.specs.Answer.{zeroMove}
+use Rattle.route_sheet.specs.Inner.Reading.{readMove}
 use Rattle.route_sheet.specs.Inner.Parts.{moveParse}
 use Rattle.route_sheet.proofs.PartLaws.{as-read}
 use Rattle.route_sheet.proofs.SectionRuns.{LinesRead, none-read, one-read, section-failed, section-whole}

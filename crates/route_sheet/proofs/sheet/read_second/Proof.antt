@@ -7,8 +7,8 @@ use native.Mathlib.Omega.{arith}
 use lib.ListN.{drop}
 use Rattle.route_sheet.specs.Text.{lineEnd}
 use Rattle.route_sheet.specs.Sheet.{mostMoves}
-use Rattle.route_sheet.specs.Reading.{parsed, readNumber}
 use Rattle.route_sheet.specs.Answer.{contentsOf}
+use Rattle.route_sheet.specs.Inner.Reading.{parsed, readNumber}
 use Rattle.route_sheet.specs.Inner.Parts.{numberParse}
 use Rattle.route_sheet.specs.declared.sections.SetsRead.{SetsRead}
 use Rattle.route_sheet.proofs.PartLaws.{as-read, value-most}
