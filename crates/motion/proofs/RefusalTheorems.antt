@@ -116,13 +116,13 @@ accepted-refusals m h =
       force = λ machine old new o p. force-refusals h machine p;
     }
 
-pub untouched : (m : Move) (n : ℕ) → UntouchedClaim m n
+pub untouched : (m : Move) → UntouchedClaim m
 unfolding FillsPositions FillsReference FillsForce
-untouched m n =
+untouched m =
     record {
-      positions = λ old new p. refused-leaves p;
-      reference = λ old new p. refused-leaves p;
-      force = λ machine old new p. refused-leaves p;
+      positions = λ n old new p. refused-leaves p;
+      reference = λ n old new p. refused-leaves p;
+      force = λ machine n old new p. refused-leaves p;
     }
 
 pub motion-order : (m : Move) → OrderClaim m

@@ -6,7 +6,6 @@ use mathlib.Core.Logic.{_⊎_, _↔_}
 use mathlib.Core.Path.{_≡_}
 use Prim.Native.Nat.{ℕ, _+_, _≤_, _<_}
 use lib.Ieee.{Float}
-use lib.IntN.{ℤ}
 use lib.ListN.{length}
 use Rattle.planner.specs.Result.{Result, refused}
 use Rattle.planner.specs.Order.{InOrder}
@@ -21,24 +20,23 @@ use Rattle.motion.specs.declared.Sample.{Sample}
 use Rattle.motion.specs.declared.SampleAnswer.{SampleAnswer}
 use Rattle.motion.specs.declared.TableAnswer.{TableAnswer}
 
+-- What a table's entry promises of the table at entry, the outcome, and the table at exit: one of the three promises below.
+abbrev pub TablePromise : Type 0 → Type 1
+TablePromise A = (old : List A) (o : Result ℕ ℕ) (new : List A) → Type 0
+
 -- Demand 1: each promise leaves one answer, and one table at exit.
+abbrev pub OneFilling : {A : Type 0} → TablePromise A → Type 0
+OneFilling {A} Promise =
+    (old new new′ : List A) (x y : TableAnswer)
+    → Promise old (tableOutcome x) new
+    → Promise old (tableOutcome y) new′
+    → (x ≡ y) × (new ≡ new′)
+
 pub record OneAnswerClaim (m : Move) : Type 0 where
   pub sample : (k : ℕ) (x y : SampleAnswer) → Samples m k (sampleOutcome x) → Samples m k (sampleOutcome y) → x ≡ y
-  pub positions :
-      (old new new′ : List ℤ) (x y : TableAnswer)
-      → FillsPositions m old (tableOutcome x) new
-      → FillsPositions m old (tableOutcome y) new′
-      → (x ≡ y) × (new ≡ new′)
-  pub reference :
-      (old new new′ : List ℤ) (x y : TableAnswer)
-      → FillsReference m old (tableOutcome x) new
-      → FillsReference m old (tableOutcome y) new′
-      → (x ≡ y) × (new ≡ new′)
-  pub force :
-      (machine : Machine Float) (old new new′ : List Float) (x y : TableAnswer)
-      → FillsForce m machine old (tableOutcome x) new
-      → FillsForce m machine old (tableOutcome y) new′
-      → (x ≡ y) × (new ≡ new′)
+  pub positions : OneFilling (FillsPositions m)
+  pub reference : OneFilling (FillsReference m)
+  pub force : (machine : Machine Float) → OneFilling (FillsForce m machine)
 
 -- This number, where that holds.
 pub data Only (number : ℕ) (Where : Type 0) : ℕ → Type 0 where
@@ -48,29 +46,35 @@ pub data Only (number : ℕ) (Where : Type 0) : ℕ → Type 0 where
 abbrev pub RefusedBy : {A : Type 0} → Result ℕ A → (Reason : ℕ → Type 0) → Type 0
 RefusedBy o Reason = (n : ℕ) → (o ≡ refused n) ↔ Reason n
 
--- 8 for a table of fewer places, else 10 for the machine.
+-- The reasons of a table with so many places: 8 for fewer than there are rows, and for forces else 10 for the machine.
+abbrev pub TableReason : (rows places : ℕ) → ℕ → Type 0
+TableReason rows places = Only 8 (places < rows)
+
 abbrev pub ForceReason : Machine Float → (rows places : ℕ) → ℕ → Type 0
 ForceReason machine rows places n =
-    Only 8 (places < rows) n ⊎ Only 10 ((rows ≤ places) × (machineInRange (machineAsRead machine) ≡ false)) n
+    TableReason rows places n ⊎ Only 10 ((rows ≤ places) × (machineInRange (machineAsRead machine) ≡ false)) n
+
+abbrev pub TableRefusals : {A : Type 0} → TablePromise A → (Reason : (places : ℕ) → ℕ → Type 0) → Type 0
+TableRefusals {A} Promise Reason = (old new : List A) (o : Result ℕ ℕ) → Promise old o new → RefusedBy o (Reason (length old))
 
 -- Demand 2: "A call with an accepted move may still be refused, but only for the rest of what it sends."
 pub record AcceptedRefusals (m : Move) : Type 0 where
   pub sample : (k : ℕ) (o : Result ℕ Sample) → Samples m k o → RefusedBy o (Only 9 (samplesOf m < k))
-  pub positions : (old new : List ℤ) (o : Result ℕ ℕ) → FillsPositions m old o new → RefusedBy o (Only 8 (length old < samplesOf m + 1))
-  pub reference : (old new : List ℤ) (o : Result ℕ ℕ) → FillsReference m old o new → RefusedBy o (Only 8 (length old < samplesOf m + 1))
-  pub force :
-      (machine : Machine Float) (old new : List Float) (o : Result ℕ ℕ)
-      → FillsForce m machine old o new
-      → RefusedBy o (ForceReason machine (samplesOf m + 2) (length old))
+  pub positions : TableRefusals (FillsPositions m) (TableReason (samplesOf m + 1))
+  pub reference : TableRefusals (FillsReference m) (TableReason (samplesOf m + 1))
+  pub force : (machine : Machine Float) → TableRefusals (FillsForce m machine) (ForceReason machine (samplesOf m + 2))
 
 abbrev pub AcceptedRefusalsClaim : Type 0
 AcceptedRefusalsClaim = (m : Move) → Accepted m → AcceptedRefusals m
 
 -- Demand 1: "A refusal writes no place of any lent table": the table at exit is the table at entry.
-pub record UntouchedClaim (m : Move) (n : ℕ) : Type 0 where
-  pub positions : (old new : List ℤ) → FillsPositions m old (refused n) new → new ≡ old
-  pub reference : (old new : List ℤ) → FillsReference m old (refused n) new → new ≡ old
-  pub force : (machine : Machine Float) (old new : List Float) → FillsForce m machine old (refused n) new → new ≡ old
+abbrev pub Untouched : {A : Type 0} → TablePromise A → Type 0
+Untouched {A} Promise = (n : ℕ) (old new : List A) → Promise old (refused n) new → new ≡ old
+
+pub record UntouchedClaim (m : Move) : Type 0 where
+  pub positions : Untouched (FillsPositions m)
+  pub reference : Untouched (FillsReference m)
+  pub force : (machine : Machine Float) → Untouched (FillsForce m machine)
 
 -- "Where several apply, the lowest number is given": the checks of the entries in their order, which rises (`lowest-given`).
 pub record OrderClaim (m : Move) : Type 0 where

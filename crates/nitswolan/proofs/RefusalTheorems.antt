@@ -1,6 +1,5 @@
 -- What a refusal of the C entries means: motion's theorems, for the field `refusal` of a struct.
 use mathlib.Core.Logic.{_↔_, Iff·trans}
-use mathlib.Core.List.{List}
 use mathlib.Core.Path.{_≡_, refl, sym, ap, subst, _∙_}
 use Prim.Native.Nat.{ℕ, _<_}
 use native.Mathlib.Omega.{arith}
@@ -8,10 +7,11 @@ use Rattle.planner.specs.Result.{Result, refused, given}
 use Rattle.planner.specs.declared.Move.{Move}
 use Rattle.planner.proofs.ResultLaws.{refused-or-given, same-refused}
 use Rattle.motion.specs.Answer.{machineOf}
-use Rattle.motion.specs.Claims.{RefusedBy}
+use Rattle.motion.specs.Claims.{TablePromise, RefusedBy, Untouched}
+use Rattle.motion.specs.Tables.{FillsPositions, FillsReference, FillsForce}
 use Rattle.motion.proofs.RefusalTheorems.{accepted-refusals, untouched}
 use Rattle.nitswolan.specs.Fields.{Answers, sampleFields, tableFields}
-use Rattle.nitswolan.specs.Claims.{FieldRefusedBy, CallerRefusalsClaim, Untouched, CallerUntouchedClaim}
+use Rattle.nitswolan.specs.Claims.{FieldRefusedBy, CallerRefusalsClaim, CallerUntouched, CallerUntouchedClaim}
 use Rattle.nitswolan.specs.declared.sample.SampleResult.{SampleResult}
 use Rattle.nitswolan.specs.declared.table.TableResult.{TableResult}
 
@@ -64,17 +64,16 @@ caller-refusals m h =
       force = λ machine old new r. table-by (refusals .force (machineOf machine) old new);
     }
 
-leaves :
-    {A : Type 0} {old new : List A} {Promise : Result ℕ ℕ → Type 0}
-    → ((n : ℕ) → Promise (refused n) → new ≡ old)
-    → Untouched old new Promise
-leaves {Promise = Promise} kept r a l =
-    kept (r .refusal) (subst Promise (refused-outcome tableFields refusalOf (λ n. refl) (λ x. refl) a l) (a .promised))
+leaves : {A : Type 0} (Promise : TablePromise A) → Untouched Promise → CallerUntouched Promise
+leaves Promise kept old new r a l =
+    kept (r .refusal) old new
+    (subst (λ o. Promise old o new) (refused-outcome tableFields refusalOf (λ n. refl) (λ x. refl) a l) (a .promised))
 
 pub caller-untouched : (m : Move) → CallerUntouchedClaim m
 caller-untouched m =
+    let kept = untouched m in
     record {
-      positions = λ old new. leaves (λ n. untouched m n .positions old new);
-      reference = λ old new. leaves (λ n. untouched m n .reference old new);
-      force = λ machine old new. leaves (λ n. untouched m n .force (machineOf machine) old new);
+      positions = leaves (FillsPositions m) (kept .positions);
+      reference = leaves (FillsReference m) (kept .reference);
+      force = λ machine. leaves (FillsForce m (machineOf machine)) (kept .force (machineOf machine));
     }

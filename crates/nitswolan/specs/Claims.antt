@@ -3,7 +3,6 @@ use mathlib.Core.List.{List}
 use mathlib.Core.Logic.{_↔_}
 use mathlib.Core.Path.{_≡_}
 use Prim.Native.Nat.{ℕ, _+_, _≤_, _<_}
-use lib.Ieee.{Float}
 use lib.IntN.{ℤ}
 use lib.ListN.{length}
 use Rattle.planner.specs.Result.{Result}
@@ -14,7 +13,7 @@ use Rattle.motion.specs.Demand3.{Demand3}
 use Rattle.motion.specs.Sampling.{Samples}
 use Rattle.motion.specs.Tables.{FillsPositions, FillsReference, FillsForce}
 use Rattle.motion.specs.Answer.{machineOf}
-use Rattle.motion.specs.Claims.{Only, ForceReason}
+use Rattle.motion.specs.Claims.{TablePromise, Only, TableReason, ForceReason}
 use Rattle.motion.specs.declared.Machine.{Machine}
 use Rattle.motion.specs.declared.Sample.{Sample}
 use Rattle.route_sheet.specs.Answer.{ReadsSheet}
@@ -29,18 +28,19 @@ abbrev pub AcceptedClaim : Type 0
 AcceptedClaim = (m : Move) (plan : PlanResult) → Answers planFields (Plans m) plan → (plan .refusal ≡ 0) ↔ Accepted m
 
 -- Demand 1: each promise leaves one answer, in every field, and one table at exit. A report's promise is the library's own.
-abbrev pub OneTable : {A : Type 0} → (new new′ : List A) → (Promise Promise′ : Result ℕ ℕ → Type 0) → Type 0
-OneTable new new′ Promise Promise′ =
-    (x y : TableResult) → Answers tableFields Promise x → Answers tableFields Promise′ y → (x ≡ y) × (new ≡ new′)
+abbrev pub CallerOneFilling : {A : Type 0} → TablePromise A → Type 0
+CallerOneFilling {A} Promise =
+    (old new new′ : List A) (x y : TableResult)
+    → Answers tableFields (λ o. Promise old o new) x
+    → Answers tableFields (λ o. Promise old o new′) y
+    → (x ≡ y) × (new ≡ new′)
 
 pub record OneAnswerClaim (m : Move) : Type 0 where
   pub plan : (x y : PlanResult) → Answers planFields (Plans m) x → Answers planFields (Plans m) y → x ≡ y
   pub sample : (k : ℕ) (x y : SampleResult) → Answers sampleFields (Samples m k) x → Answers sampleFields (Samples m k) y → x ≡ y
-  pub positions : (old new new′ : List ℤ) → OneTable new new′ (λ o. FillsPositions m old o new) (λ o. FillsPositions m old o new′)
-  pub reference : (old new new′ : List ℤ) → OneTable new new′ (λ o. FillsReference m old o new) (λ o. FillsReference m old o new′)
-  pub force :
-      (machine : Machine) (old new new′ : List Float)
-      → OneTable new new′ (λ o. FillsForce m (machineOf machine) old o new) (λ o. FillsForce m (machineOf machine) old o new′)
+  pub positions : CallerOneFilling (FillsPositions m)
+  pub reference : CallerOneFilling (FillsReference m)
+  pub force : (machine : Machine) → CallerOneFilling (FillsForce m (machineOf machine))
   pub sheet : (text : List ℕ) (x y : SheetResult) → Answers sheetFields (ReadsSheet text) x → Answers sheetFields (ReadsSheet text) y → x ≡ y
 
 -- What is at hand where a move was planned, asked for at each of its samples, and filled into a table.
@@ -72,29 +72,24 @@ CallerClaim =
 abbrev pub FieldRefusedBy : ℕ → (Reason : ℕ → Type 0) → Type 0
 FieldRefusedBy refusal Reason = (n : ℕ) → 0 < n → (refusal ≡ n) ↔ Reason n
 
+abbrev pub CallerTableRefusals : {A : Type 0} → TablePromise A → (Reason : (places : ℕ) → ℕ → Type 0) → Type 0
+CallerTableRefusals {A} Promise Reason =
+    (old new : List A) (r : TableResult) → Answers tableFields (λ o. Promise old o new) r → FieldRefusedBy (r .refusal) (Reason (length old))
+
 pub record CallerRefusals (m : Move) : Type 0 where
   pub sample : (k : ℕ) (r : SampleResult) → Answers sampleFields (Samples m k) r → FieldRefusedBy (r .refusal) (Only 9 (samplesOf m < k))
-  pub positions :
-      (old new : List ℤ) (r : TableResult)
-      → Answers tableFields (λ o. FillsPositions m old o new) r
-      → FieldRefusedBy (r .refusal) (Only 8 (length old < samplesOf m + 1))
-  pub reference :
-      (old new : List ℤ) (r : TableResult)
-      → Answers tableFields (λ o. FillsReference m old o new) r
-      → FieldRefusedBy (r .refusal) (Only 8 (length old < samplesOf m + 1))
-  pub force :
-      (machine : Machine) (old new : List Float) (r : TableResult)
-      → Answers tableFields (λ o. FillsForce m (machineOf machine) old o new) r
-      → FieldRefusedBy (r .refusal) (ForceReason (machineOf machine) (samplesOf m + 2) (length old))
+  pub positions : CallerTableRefusals (FillsPositions m) (TableReason (samplesOf m + 1))
+  pub reference : CallerTableRefusals (FillsReference m) (TableReason (samplesOf m + 1))
+  pub force : (machine : Machine) → CallerTableRefusals (FillsForce m (machineOf machine)) (ForceReason (machineOf machine) (samplesOf m + 2))
 
 abbrev pub CallerRefusalsClaim : Type 0
 CallerRefusalsClaim = (m : Move) → Accepted m → CallerRefusals m
 
 -- Demand 1, "A refusal writes no place of any lent table".
-abbrev pub Untouched : {A : Type 0} → (old new : List A) → (Result ℕ ℕ → Type 0) → Type 0
-Untouched old new Promise = (r : TableResult) → Answers tableFields Promise r → 0 < r .refusal → new ≡ old
+abbrev pub CallerUntouched : {A : Type 0} → TablePromise A → Type 0
+CallerUntouched {A} Promise = (old new : List A) (r : TableResult) → Answers tableFields (λ o. Promise old o new) r → 0 < r .refusal → new ≡ old
 
 pub record CallerUntouchedClaim (m : Move) : Type 0 where
-  pub positions : (old new : List ℤ) → Untouched old new (λ o. FillsPositions m old o new)
-  pub reference : (old new : List ℤ) → Untouched old new (λ o. FillsReference m old o new)
-  pub force : (machine : Machine) (old new : List Float) → Untouched old new (λ o. FillsForce m (machineOf machine) old o new)
+  pub positions : CallerUntouched (FillsPositions m)
+  pub reference : CallerUntouched (FillsReference m)
+  pub force : (machine : Machine) → CallerUntouched (FillsForce m (machineOf machine))

@@ -1,52 +1,102 @@
--- Each of the ten least numbers of a move in range is the least.
-use Prim.Native.Nat.{ℕ, _+_, _*_, _^_, _≤_}
+-- The ten searches, written out once: the intervals of the rules are the smallest of what they give, and for a move in range each gives the
+-- least number.
+use mathlib.Core.List.{List, [], _∷_}
+use mathlib.Core.Path.{_≡_, refl}
+use Prim.Native.Nat.{ℕ, _+_, _*_, _^_, _≤_, min, max}
 use native.Mathlib.Omega.{arith}
 use Rattle.planner.specs.Least.{least, IsLeast}
-use Rattle.planner.specs.Intervals.{a, b, J₁, A₁, V₁}
+use Rattle.planner.specs.Intervals.{interval-a, interval-b, interval-c, interval-e, a, b, c, e, J₁, A₁, V₁}
+use Rattle.planner.specs.Result.{Each}
 use Rattle.planner.specs.Outcome.{distanceOf}
 use Rattle.planner.specs.Claims.{InRange, ofMove}
 use Rattle.planner.specs.declared.Move.{Move}
 use Rattle.planner.proofs.Forms.{power-form, linear-form, product-form, square-form, form-least}
 use Rattle.planner.proofs.PlannedFacts.{interval-claim}
 
--- what `least` gives is the least
-abbrev Found : (target : ℕ) (reach : ℕ → ℕ) → Type 0
-Found target reach = IsLeast target reach (least target reach)
+-- a target, and what is to reach it
+abbrev Search : Type 0
+Search = ℕ × (ℕ → ℕ)
 
--- the ten searches of the rules
-pub record TenLeast (W V₀ A₀ J₀ S₀ J₁ A₁ V₁ a b : ℕ) : Type 0 where
-  pub a-distance : Found W (λ n. 8 * S₀ * n ^ 4)
-  pub a-velocity : Found V₀ (λ n. 2 * S₀ * n ^ 3)
-  pub a-acceleration : Found A₀ (λ n. S₀ * n ^ 2)
-  pub a-jerk : Found J₀ (λ n. S₀ * n)
-  pub b-distance : Found W (λ n. 2 * J₁ * n * (a + n) ^ 2)
-  pub b-velocity : Found V₀ (λ n. J₁ * n * (a + n))
-  pub b-acceleration : Found A₀ (λ n. J₁ * n)
-  pub c-distance : Found W (λ n. A₁ * n * (a + b + n))
-  pub c-velocity : Found V₀ (λ n. A₁ * n)
-  pub e-distance : Found W (λ n. V₁ * n)
+abbrev foundBy : Search → ℕ
+foundBy x = least (x .0) (x .1)
 
--- by their factors, which are at least 1
-least-by-factors :
-    (W V₀ A₀ J₀ S₀ J₁ A₁ V₁ a b : ℕ) → 1 ≤ S₀ → 1 ≤ J₁ → 1 ≤ A₁ → 1 ≤ V₁ → TenLeast W V₀ A₀ J₀ S₀ J₁ A₁ V₁ a b
-least-by-factors W V₀ A₀ J₀ S₀ J₁ A₁ V₁ a b hS hJ hA hV =
-    record {
-      a-distance = form-least (8 * S₀) 0 3 W (power-form _ 3) (omega arith);
-      a-velocity = form-least (2 * S₀) 0 2 V₀ (power-form _ 2) (omega arith);
-      a-acceleration = form-least S₀ 0 1 A₀ (power-form _ 1) hS;
-      a-jerk = form-least S₀ 0 0 J₀ (linear-form _ 0) hS;
-      b-distance = form-least (2 * J₁) a 2 W (product-form _ _ 2) (omega arith);
-      b-velocity = form-least J₁ a 1 V₀ (square-form _ _) hJ;
-      b-acceleration = form-least J₁ a 0 A₀ (linear-form _ a) hJ;
-      c-distance = form-least A₁ (a + b) 1 W (square-form _ _) hA;
-      c-velocity = form-least A₁ a 0 V₀ (linear-form _ a) hA;
-      e-distance = form-least V₁ 0 0 W (linear-form _ 0) hV;
-    }
+abbrev FindsLeast : Search → Type 0
+FindsLeast x = IsLeast (x .0) (x .1) (foundBy x)
 
-pub ten-least :
-    (m : Move) → InRange m →
-    TenLeast (distanceOf m) (m .velocity) (m .acceleration) (m .jerk) (m .snap) (ofMove m J₁) (ofMove m A₁) (ofMove m V₁) (ofMove m a)
-    (ofMove m b)
+abbrev smallest : List Search → ℕ
+smallest [] = 0
+smallest (x ∷ []) = foundBy x
+smallest (x ∷ y ∷ xs) = min (foundBy x) (smallest (y ∷ xs))
+
+abbrev searches-a : (W V₀ A₀ J₀ S₀ : ℕ) → List Search
+searches-a W V₀ A₀ J₀ S₀ = (W, λ n. 8 * S₀ * n ^ 4) ∷ (V₀, λ n. 2 * S₀ * n ^ 3) ∷ (A₀, λ n. S₀ * n ^ 2) ∷ (J₀, λ n. S₀ * n) ∷ []
+
+abbrev searches-b : (W V₀ A₀ J₁ a : ℕ) → List Search
+searches-b W V₀ A₀ J₁ a = (W, λ n. 2 * J₁ * n * (a + n) ^ 2) ∷ (V₀, λ n. J₁ * n * (a + n)) ∷ (A₀, λ n. J₁ * n) ∷ []
+
+abbrev searches-c : (W V₀ A₁ a b : ℕ) → List Search
+searches-c W V₀ A₁ a b = (W, λ n. A₁ * n * (a + b + n)) ∷ (V₀, λ n. A₁ * n) ∷ []
+
+abbrev searches-e : (W V₁ : ℕ) → List Search
+searches-e W V₁ = (W, λ n. V₁ * n) ∷ []
+
+-- each finds the least, by its factor, which is at least 1
+least-a : (W V₀ A₀ J₀ S₀ : ℕ) → 1 ≤ S₀ → Each FindsLeast (searches-a W V₀ A₀ J₀ S₀)
+least-a W V₀ A₀ J₀ S₀ h = (
+  form-least (8 * S₀) 0 3 W (power-form _ 3) (omega arith),
+  (
+    form-least (2 * S₀) 0 2 V₀ (power-form _ 2) (omega arith),
+    (form-least S₀ 0 1 A₀ (power-form _ 1) h, (form-least S₀ 0 0 J₀ (linear-form _ 0) h, tt)),
+  ),
+)
+
+least-b : (W V₀ A₀ J₁ a : ℕ) → 1 ≤ J₁ → Each FindsLeast (searches-b W V₀ A₀ J₁ a)
+least-b W V₀ A₀ J₁ a h = (
+  form-least (2 * J₁) a 2 W (product-form _ _ 2) (omega arith),
+  (form-least J₁ a 1 V₀ (square-form _ _) h, (form-least J₁ a 0 A₀ (linear-form _ a) h, tt)),
+)
+
+least-c : (W V₀ A₁ a b : ℕ) → 1 ≤ A₁ → Each FindsLeast (searches-c W V₀ A₁ a b)
+least-c W V₀ A₁ a b h = (form-least A₁ (a + b) 1 W (square-form _ _) h, (form-least A₁ a 0 V₀ (linear-form _ a) h, tt))
+
+least-e : (W V₁ : ℕ) → 1 ≤ V₁ → Each FindsLeast (searches-e W V₁)
+least-e W V₁ h = (form-least V₁ 0 0 W (linear-form _ 0) h, tt)
+
+-- "the smallest of: ..; but never below .."
+module _ (m : Move) where
+  abbrev searched-a : List Search
+  searched-a = searches-a (distanceOf m) (m .velocity) (m .acceleration) (m .jerk) (m .snap)
+
+  abbrev searched-b : List Search
+  searched-b = searches-b (distanceOf m) (m .velocity) (m .acceleration) (ofMove m J₁) (ofMove m a)
+
+  abbrev searched-c : List Search
+  searched-c = searches-c (distanceOf m) (m .velocity) (ofMove m A₁) (ofMove m a) (ofMove m b)
+
+  abbrev searched-e : List Search
+  searched-e = searches-e (distanceOf m) (ofMove m V₁)
+
+  pub record TenLeast : Type 0 where
+    pub a-is : ofMove m a ≡ smallest searched-a
+    pub b-is : ofMove m b ≡ max (ofMove m a) (smallest searched-b)
+    pub c-is : ofMove m c ≡ max (ofMove m a + ofMove m b) (smallest searched-c)
+    pub e-is : ofMove m e ≡ max (ofMove m a + ofMove m b + ofMove m c) (smallest searched-e)
+    pub a-least : Each FindsLeast searched-a
+    pub b-least : Each FindsLeast searched-b
+    pub c-least : Each FindsLeast searched-c
+    pub e-least : Each FindsLeast searched-e
+
+pub ten-least : (m : Move) → InRange m → TenLeast m
+unfolding a b c e interval-a interval-b interval-c interval-e
 ten-least m h =
     let claim = interval-claim m in
-    least-by-factors _ _ _ _ _ _ _ _ _ _ (h .snap .at-least) (claim .one-J₁ h) (claim .one-A₁ h) (claim .one-V₁ h)
+    record {
+      a-is = refl;
+      b-is = refl;
+      c-is = refl;
+      e-is = refl;
+      a-least = least-a _ _ _ _ _ (h .snap .at-least);
+      b-least = least-b _ _ _ _ _ (claim .one-J₁ h);
+      c-least = least-c _ _ _ _ _ (claim .one-A₁ h);
+      e-least = least-e _ _ (claim .one-V₁ h);
+    }
