@@ -2,14 +2,15 @@
 # test: the gate.
 # lib: proves the library and builds the archive that C links, target/staticlib/libnitswolan.a.
 # differential: holds the archive to the reference, TIMES times as long as the gate does; SEED=N draws other inputs.
+# vectors: makes the stored vectors anew, requests and the reference's answers.
 # bench: times the archive against the reference.
 SHEET ?= examples/farm.sheet
 TIMES ?= 10
 SEED ?=
 
-reference = cargo run --offline --quiet --manifest-path reference/Cargo.toml -p linked
+reference = cargo run --offline --quiet --manifest-path reference/Cargo.toml
 
-.PHONY: run test lib differential bench
+.PHONY: run test lib differential vectors bench
 
 run:
 	@mkdir -p target
@@ -25,7 +26,10 @@ lib:
 	@echo target/staticlib/libnitswolan.a
 
 differential: lib
-	@$(reference) --release --bin differential -- --times $(TIMES) $(if $(SEED),--seed $(SEED))
+	@$(reference) --release -p linked --bin differential -- $(TIMES) $(SEED)
+
+vectors:
+	@$(reference) --release --bin vectors -- write crates/vectors
 
 bench: lib
-	@$(reference) --profile speed --bin bench
+	@$(reference) --profile speed -p linked --bin bench

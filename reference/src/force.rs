@@ -13,5 +13,5 @@ mod machine;
 pub use coefficients::Coefficients;
 pub use doubled::Doubled;
 pub use drive::Drive;
-pub use force_table::force_table;
+pub use force_table::{force_table, write_rows};
 pub use machine::{Machine, LARGEST_NUMBER, LEAST_STIFFNESS};

@@ -3,12 +3,10 @@
 mod deciders;
 mod intervals;
 mod moves;
-mod narrow;
 
 pub use deciders::{deciding_lower_limits, deciding_searches};
-pub use intervals::{Intervals, Searches, SEARCH_COUNT};
+pub use intervals::{Intervals, Searches};
 pub use moves::{Move, LARGEST_BOUND, LARGEST_DISPLACEMENT, UNITS_PER_COUNT};
-pub use narrow::plan_narrow;
 
 /// The most samples a move may take (N in the paper, row 7).
 pub const MOST_SAMPLES: u128 = 4096;

@@ -12,7 +12,7 @@ pub use counts::nearest_count;
 pub use position_table::position_table;
 pub use reference_table::reference_table;
 pub use sample::{sample, Sample, SampleAnswer};
-pub use segments::{Segment, SEGMENT_COUNT};
+pub use segments::{segments, Segment, SEGMENT_COUNT};
 pub use state::State;
 
 use crate::planner::{durations, plan, Answer, Move};
@@ -48,7 +48,7 @@ impl Profile {
         // changes sign; all of them are sums of snaps.
         let snap = size as i64 * motion.displacement.signum();
         Ok(Profile {
-            segments: segments::segments(durations(intervals), snap),
+            segments: segments(durations(intervals), snap),
             samples: intervals.iter().sum(),
         })
     }

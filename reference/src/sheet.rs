@@ -8,7 +8,7 @@ mod span;
 
 pub use beginning::{can_begin, longest_beginning, Parts};
 pub use contents::{render, Sheet, SheetMove};
-pub use lines::Line;
+pub use lines::{Line, MOST_MOVES, MOST_SETS};
 pub use report::report;
 
 /// The most bytes that a sheet may have (row 12).

@@ -1,80 +1,96 @@
-//! Test vectors: an input file and the output that the reference gives for it.
+//! Stored vectors: requests, and what the reference answers.
 
-mod conditions;
-pub mod force;
-pub mod motion;
-pub mod planner;
-pub mod sheet;
-pub mod splitmix;
+mod paper;
 mod store;
-mod table_text;
+mod text;
 
-use splitmix::SplitMix64;
-use std::collections::HashSet;
-use std::hash::Hash;
+use crate::draw::Random;
+use crate::kinds::{Kind, Requests, KINDS};
+use crate::request::{Outcome, Request};
 use std::path::Path;
 
-/// The two files of one kind of vectors, as bytes: a sheet need not be text.
-#[derive(Clone, Debug, PartialEq, Eq)]
+/// Any fixed number would do; the conditions say whether it is good enough.
+const SEED: u64 = 2003;
+
+/// The most bytes that all stored vectors may have together.
+const MOST_BYTES: usize = 500_000;
+
+/// The requests of each kind beside those that meet the conditions, and the most
+/// bytes that one of these takes.
+const REQUESTS: usize = 120;
+const FEW_BYTES: usize = 2_000;
+
+/// The most bytes that a request takes, whatever it is for: no long texts but
+/// those of zeros are stored.
+const MANY_BYTES: usize = 40_000;
+
+/// The requests and the answers, as bytes: a sheet need not be text.
+#[derive(Default)]
 pub struct Files {
     pub stdin: Vec<u8>,
     pub stdout: Vec<u8>,
 }
 
 impl Files {
-    /// What is asked and what is answered, one request after the other.
-    fn of<T, Part: Into<Vec<u8>>>(
-        requests: &[T],
-        input: impl Fn(&T) -> Part,
-        output: impl Fn(&T) -> Part,
-    ) -> Files {
-        let bytes = |part: Part| part.into();
+    fn bytes(&self) -> usize {
+        self.stdin.len() + self.stdout.len()
+    }
+
+    fn of(request: &Request, outcome: &Outcome) -> Files {
         Files {
-            stdin: requests.iter().map(input).flat_map(bytes).collect(),
-            stdout: requests.iter().map(output).flat_map(bytes).collect(),
+            stdin: text::input(request, outcome),
+            stdout: text::output(request, outcome),
         }
     }
-}
 
-/// Why the command failed.
-#[derive(Clone, Debug, PartialEq, Eq)]
-pub enum Failure {
-    /// The words of the command make no sense.
-    Usage,
-    /// The vectors could not be made, written, or found equal.
-    Message(String),
-}
-
-/// Runs `ACTION KIND DIR`, where the action is `write` or `check`.
-pub fn run(action: &str, kind: &str, dir: &Path) -> Result<(), Failure> {
-    let store = match action {
-        "write" => store::write,
-        "check" => store::check,
-        _ => return Err(Failure::Usage),
-    };
-    let made = match kind {
-        "planner" => planner::files(),
-        "motion" => motion::files(),
-        "force" => force::files(),
-        "sheet" => sheet::files(),
-        _ => return Err(Failure::Usage),
-    };
-    made.and_then(|files| store(dir, &files))
-        .map_err(|message| Failure::Message(format!("{kind} vectors: {message}")))
-}
-
-/// A list of requests that draws on random numbers.
-pub type Drawn<T> = fn(&mut SplitMix64) -> Vec<T>;
-
-/// The first list and then the drawn ones, none twice; always the same ones for
-/// a seed. Any seed would do: the coverage check says whether it is good enough.
-fn gathered<T: Clone + Eq + Hash>(first: Vec<T>, seed: u64, drawn: &[Drawn<T>]) -> Vec<T> {
-    let mut random = SplitMix64::new(seed);
-    let mut list = first;
-    for more in drawn {
-        list.extend(more(&mut random));
+    fn add(&mut self, other: Files) {
+        self.stdin.extend(other.stdin);
+        self.stdout.extend(other.stdout);
     }
-    let mut seen = HashSet::new();
-    list.retain(|entry| seen.insert(entry.clone()));
-    list
+}
+
+/// Document 01's own values, then requests of each kind; or what they lack.
+pub fn files() -> Result<Files, String> {
+    let mut files = Files::default();
+    for request in paper::requests() {
+        files.add(Files::of(&request, &request.expected()));
+    }
+    let mut seeds = Random::new(SEED);
+    for kind in &KINDS {
+        files.add(drawn(kind, seeds.bits())?);
+    }
+    match files.bytes() {
+        0..=MOST_BYTES => Ok(files),
+        bytes => Err(format!("{bytes} bytes, at most {MOST_BYTES} are stored")),
+    }
+}
+
+fn drawn(kind: &'static Kind, seed: u64) -> Result<Files, String> {
+    let mut requests = Requests::new(kind, seed);
+    let mut files = Files::default();
+    let mut left = REQUESTS;
+    while left > 0 {
+        let most = match requests.settled() {
+            true => FEW_BYTES,
+            false => MANY_BYTES,
+        };
+        left -= usize::from(requests.settled());
+        let fits = |request: &_, outcome: &_| Files::of(request, outcome).bytes() <= most;
+        let (request, outcome) = requests.draw(fits);
+        files.add(Files::of(&request, &outcome));
+    }
+    match &requests.unmet()[..] {
+        [] => Ok(files),
+        unmet => Err(format!("{}: not met: {}", kind.name, unmet.join("; "))),
+    }
+}
+
+/// Stores the vectors in a folder.
+pub fn write(folder: &Path) -> Result<(), String> {
+    store::write(folder, &files()?)
+}
+
+/// Whether the folder holds the vectors that the reference makes.
+pub fn check(folder: &Path) -> Result<(), String> {
+    store::check(folder, &files()?)
 }

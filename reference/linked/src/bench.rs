@@ -14,7 +14,9 @@ mod samples;
 mod sheets;
 mod tables;
 
+use crate::differential::{misfit, Proved};
 use contest::Timed;
+use reference::request::Request;
 
 /// The batches of each side.
 const REPEATS: usize = 101;
@@ -58,6 +60,12 @@ fn sections() -> Result<[Section; 7], String> {
         forces::section("Force table, filtered drive", &forces::FILTERED)?,
         sheets::section()?,
     ])
+}
+
+/// An error unless the archive answers as the reference does.
+fn agree(request: &Request) -> Result<(), String> {
+    let misfit = misfit(&Proved, request, &request.expected());
+    misfit.map_or(Ok(()), |words| Err(format!("{request:?}\n{words}")))
 }
 
 /// An error unless two sides gave the same for an input.

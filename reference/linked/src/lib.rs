@@ -2,5 +2,4 @@
 
 pub mod bench;
 pub mod differential;
-mod expected;
 pub mod library;

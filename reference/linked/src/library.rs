@@ -4,9 +4,11 @@
 mod forms;
 mod layout;
 
-pub use layout::{BoundSet, Machine, Move, RouteMove};
+pub use layout::{BoundSet, RouteMove};
 pub use layout::{PlanResult, SampleResult, SheetResult, TableResult};
 pub use layout::{MOST_MOVES, MOST_SETS, REPORT_BYTES};
+pub use reference::force::Machine;
+pub use reference::planner::Move;
 
 extern "C" {
     fn nitswolan_plan_move(motion: Move) -> PlanResult;

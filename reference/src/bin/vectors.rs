@@ -1,33 +1,24 @@
-//! `vectors write KIND DIR` stores the vectors made by the reference;
-//! `vectors check KIND DIR` says whether the stored ones are still the same.
-//! The kind is `planner`, `motion`, `force` or `sheet`.
+//! `vectors write FOLDER` stores the vectors that the reference makes;
+//! `vectors check FOLDER` says whether the stored ones are still the same.
 
-use reference::vectors::{run, Failure};
+use reference::vectors::{check, write};
 use std::env;
-use std::ffi::OsString;
 use std::path::Path;
 use std::process::ExitCode;
 
 fn main() -> ExitCode {
-    let words: Vec<OsString> = env::args_os().skip(1).collect();
-    match command(&words) {
+    let words: Vec<String> = env::args().skip(1).collect();
+    let words: Vec<&str> = words.iter().map(String::as_str).collect();
+    let done = match words[..] {
+        ["write", folder] => write(Path::new(folder)),
+        ["check", folder] => check(Path::new(folder)),
+        _ => Err("usage: vectors write|check FOLDER".into()),
+    };
+    match done {
         Ok(()) => ExitCode::SUCCESS,
-        Err(Failure::Usage) => {
-            eprintln!("usage: vectors write|check planner|motion|force|sheet DIR");
-            ExitCode::from(2)
-        }
-        Err(Failure::Message(message)) => {
-            eprintln!("{message}");
+        Err(message) => {
+            eprintln!("vectors: {message}");
             ExitCode::FAILURE
         }
     }
-}
-
-fn command(words: &[OsString]) -> Result<(), Failure> {
-    let [action, kind, dir] = words else {
-        return Err(Failure::Usage);
-    };
-    let action = action.to_str().ok_or(Failure::Usage)?;
-    let kind = kind.to_str().ok_or(Failure::Usage)?;
-    run(action, kind, Path::new(dir))
 }

@@ -21,19 +21,24 @@ pub fn force_table(motion: &Move, machine: &Machine, table: &mut [f64]) -> Table
         Ok(both) => both,
         Err(number) => return TableAnswer::Refused(number),
     };
-    let q = Coefficients::of(&machine);
-    match Drive::of(&machine) {
-        Drive::Rigid { c } => fill(&profile, &q, table, |u| u / c),
+    let (q, drive) = (Coefficients::of(&machine), Drive::of(&machine));
+    write_rows(&profile, &q, drive, table);
+    TableAnswer::Written(profile.samples + MORE_ROWS)
+}
+
+/// Writes the rows for these factors and this drive.
+pub fn write_rows(profile: &Profile, q: &Coefficients, drive: Drive, table: &mut [f64]) {
+    match drive {
+        Drive::Rigid { c } => fill(profile, q, table, |u| u / c),
         Drive::Filtered { alpha, beta } => {
             let (mut y_before, mut u_before) = (0.0, 0.0);
-            fill(&profile, &q, table, |u| {
+            fill(profile, q, table, |u| {
                 y_before = alpha * y_before + beta * (u + u_before);
                 u_before = u;
                 y_before
             });
         }
     }
-    TableAnswer::Written(profile.samples + MORE_ROWS)
 }
 
 /// The profile and the machine as it is read, or the lowest refusal.

@@ -6,7 +6,9 @@ pub const LARGEST_NUMBER: f64 = 1_048_576.0;
 /// The least stiffness: 2^-20.
 pub const LEAST_STIFFNESS: f64 = 1.0 / LARGEST_NUMBER;
 
-/// The masses m1 and m2, the dampings k1, k2 and k12, and the stiffness c.
+/// The masses m1 and m2, the dampings k1, k2 and k12, and the stiffness c. In C's
+/// layout, as a move is.
+#[repr(C)]
 #[derive(Clone, Copy, Debug)]
 pub struct Machine {
     pub m1: f64,

@@ -8,9 +8,6 @@
 use super::moves::Move;
 use crate::least::least;
 
-/// How many searches the paper names: four for a, three for b, two for c, one for e.
-pub const SEARCH_COUNT: usize = 10;
-
 /// The least number found by each search, in the paper's order.
 #[derive(Clone, Copy, Debug, PartialEq, Eq)]
 pub struct Searches {

@@ -10,8 +10,9 @@ pub const LARGEST_DISPLACEMENT: u64 = 1_048_576;
 pub const LARGEST_BOUND: u64 = 1 << 50;
 
 /// The displacement X in counts and the bounds V, A, J and S in units of 1/G
-/// count.
-#[derive(Clone, Copy, Debug, PartialEq, Eq, Hash)]
+/// count. In C's layout, so that it can be sent to the library as it is.
+#[repr(C)]
+#[derive(Clone, Copy, Debug, PartialEq, Eq)]
 pub struct Move {
     pub displacement: i64,
     pub velocity: u64,

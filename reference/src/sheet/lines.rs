@@ -3,8 +3,8 @@
 use super::span::Span;
 
 /// The most bound sets and the most moves of a sheet.
-const MOST_SETS: u64 = 16;
-const MOST_MOVES: u64 = 256;
+pub const MOST_SETS: u64 = 16;
+pub const MOST_MOVES: u64 = 256;
 
 /// V, A, J or S: 19 digits at most.
 const BOUND: Span = Span {

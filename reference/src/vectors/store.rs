@@ -4,22 +4,22 @@ use super::Files;
 use std::fs;
 use std::path::Path;
 
-pub fn write(dir: &Path, files: &Files) -> Result<(), String> {
-    fs::create_dir_all(dir).map_err(|error| format!("{}: {error}", dir.display()))?;
+pub fn write(folder: &Path, files: &Files) -> Result<(), String> {
+    fs::create_dir_all(folder).map_err(|error| format!("{}: {error}", folder.display()))?;
     for (name, bytes) in parts(files) {
-        let path = dir.join(name);
+        let path = folder.join(name);
         fs::write(&path, bytes).map_err(|error| format!("{}: {error}", path.display()))?;
     }
     Ok(())
 }
 
-pub fn check(dir: &Path, files: &Files) -> Result<(), String> {
+pub fn check(folder: &Path, files: &Files) -> Result<(), String> {
     for (name, bytes) in parts(files) {
-        let path = dir.join(name);
+        let path = folder.join(name);
         let stored = fs::read(&path).map_err(|error| format!("{}: {error}", path.display()))?;
         if let Some(line) = first_difference(&stored, bytes) {
-            let place = path.display();
-            return Err(format!("{place} differs from the reference at line {line}"));
+            let path = path.display();
+            return Err(format!("{path} differs from the reference at line {line}"));
         }
     }
     Ok(())
@@ -31,10 +31,7 @@ fn parts(files: &Files) -> [(&'static str, &[u8]); 2] {
 
 /// The first line, counted from 1, with a byte that differs or is missing.
 fn first_difference(stored: &[u8], made: &[u8]) -> Option<usize> {
-    if stored == made {
-        return None;
-    }
     let same = stored.iter().zip(made).take_while(|(s, m)| s == m).count();
-    let line_ends = made[..same].iter().filter(|byte| **byte == b'\n').count();
-    Some(line_ends + 1)
+    let line = 1 + made[..same].iter().filter(|byte| **byte == b'\n').count();
+    (stored != made).then_some(line)
 }

@@ -2,11 +2,12 @@
 
 use super::contest::{Contest, Timed};
 use super::inputs::moves_of;
-use super::{plain, same, Section, PLACES, SAMPLES};
-use crate::{expected, library};
+use super::{agree, plain, same, Section, PLACES, SAMPLES};
+use crate::library;
 use reference::force::{force_table, Machine};
 use reference::planner::Move;
 use reference::profile::TableAnswer;
+use reference::request::Request;
 
 /// The most of the other's time that a force table may take.
 const AIM: Option<f64> = Some(1.1);
@@ -40,8 +41,9 @@ pub fn section(title: &'static str, machine: &Machine) -> Result<Section, String
 fn contest(n: u64, machine: &Machine) -> Result<Box<dyn Timed>, String> {
     let with_machine = |motion| (motion, *machine);
     let asks: Vec<Ask> = moves_of(n).into_iter().map(with_machine).collect();
-    for ask in &asks {
-        agree(ask)?;
+    for (motion, machine) in &asks {
+        agree(&Request::Force(*motion, *machine, PLACES as u64))?;
+        rivals_agree(motion, machine)?;
     }
     let table = vec![0.0; PLACES].into_boxed_slice();
     let contest = Contest::new(format!("N = {n}"), Some(n), asks, table)
@@ -54,7 +56,7 @@ fn contest(n: u64, machine: &Machine) -> Result<Box<dyn Timed>, String> {
 }
 
 fn archive((motion, machine): &Ask, table: &mut Table) -> library::TableResult {
-    library::fill_force(motion.into(), machine.into(), table)
+    library::fill_force(*motion, *machine, table)
 }
 
 #[inline(never)]
@@ -63,18 +65,14 @@ fn wide((motion, machine): &Ask, table: &mut Table) -> TableAnswer {
 }
 
 /// The same rows in the same bits, and the same places kept.
-fn agree(ask: &Ask) -> Result<(), String> {
-    let (motion, machine) = ask;
-    let mut tables = [0; 3].map(|_| vec![-1.0; PLACES]);
-    let [first, others @ ..] = &mut tables;
-    let archive = (archive(ask, first), bits(first));
-    for (fill, table) in [force_table, plain::forces].into_iter().zip(others) {
-        let rival = expected::table(fill(motion, machine, table));
-        same("force table", &archive, &(rival, bits(table)))?;
-    }
-    Ok(())
-}
-
-fn bits(table: &[f64]) -> Vec<u64> {
-    table.iter().map(|row| row.to_bits()).collect()
+fn rivals_agree(motion: &Move, machine: &Machine) -> Result<(), String> {
+    let [first, second] = [force_table, plain::forces].map(|fill| {
+        let mut table = vec![-1.0; PLACES];
+        let answer = fill(motion, machine, &mut table);
+        (
+            answer,
+            table.into_iter().map(f64::to_bits).collect::<Vec<u64>>(),
+        )
+    });
+    same("force table", first, second)
 }

@@ -3,20 +3,21 @@
 //! each line straight into the buffer.
 
 mod forces;
+mod narrow;
 mod output;
 mod positions;
 pub mod sheet;
 
 pub use forces::forces;
+pub use narrow::plan_narrow;
 pub use positions::positions;
 
-use reference::planner::{durations, plan_narrow, Answer, Move};
-use reference::profile::{Segment, SEGMENT_COUNT};
+use reference::planner::{durations, Answer, Move};
+use reference::profile::{segments, Segment, SEGMENT_COUNT};
 
-/// What the rows are made of: the intervals and the snap in its direction.
+/// What the rows are made of.
 struct Plan {
-    intervals: [u64; 4],
-    snap: i64,
+    segments: [Segment; SEGMENT_COUNT],
     rows: u64,
 }
 
@@ -34,35 +35,6 @@ fn planned(motion: &Move, places: usize, more: u64) -> Result<Plan, u8> {
         return Err(8);
     }
     let snap = size * motion.displacement.signum();
-    Ok(Plan {
-        intervals,
-        snap,
-        rows,
-    })
-}
-
-fn segments(plan: &Plan) -> [Segment; SEGMENT_COUNT] {
-    let [p, q, r, s] = durations(plan.intervals);
-    let (up, none, down) = (plan.snap, 0, -plan.snap);
-    [
-        (p, up),
-        (q, none),
-        (p, down),
-        (r, none),
-        (p, down),
-        (q, none),
-        (p, up),
-        (s, none),
-        (p, down),
-        (q, none),
-        (p, up),
-        (r, none),
-        (p, up),
-        (q, none),
-        (p, down),
-    ]
-    .map(|(samples, snap)| Segment {
-        samples: samples as usize,
-        snap,
-    })
+    let segments = segments(durations(intervals), snap);
+    Ok(Plan { segments, rows })
 }

@@ -2,9 +2,11 @@
 
 use super::contest::{Contest, Timed};
 use super::inputs::{planned_mix, whole_mix};
-use super::{same, Section};
-use crate::{expected, library};
-use reference::planner::{plan, plan_narrow, Answer, Move};
+use super::plain::plan_narrow;
+use super::{agree, same, Section};
+use crate::library;
+use reference::planner::{plan, Answer, Move};
+use reference::request::Request;
 
 pub fn section() -> Result<Section, String> {
     let contests = vec![
@@ -19,14 +21,12 @@ pub fn section() -> Result<Section, String> {
 
 fn mix(kind: &str, moves: Vec<Move>) -> Result<Box<dyn Timed>, String> {
     for motion in &moves {
-        let archive = library::plan_move(motion.into());
-        for rival in [plan, plan_narrow] {
-            same("plan", archive, expected::plan(rival(motion)))?;
-        }
+        agree(&Request::Plan(*motion))?;
+        same("plan", plan(motion), plan_narrow(motion))?;
     }
     let what = format!("{} {kind}", moves.len());
     let contest = Contest::new(what, None, moves, Box::new(()))
-        .archive(|motion, _| library::plan_move(motion.into()))
+        .archive(|motion, _| library::plan_move(*motion))
         .against("128-bit planner", Some(0.5), |motion, _| wide(motion))
         .against("64-bit planner", None, |motion, _| narrow(motion));
     Ok(contest.ready())

@@ -2,10 +2,11 @@
 
 use super::contest::{Contest, Timed};
 use super::inputs::moves_of;
-use super::{same, Section};
-use crate::{expected, library};
+use super::{agree, Section};
+use crate::library;
 use reference::planner::Move;
 use reference::profile::{sample, SampleAnswer};
+use reference::request::Request;
 
 /// A move and the number of a sample.
 type Ask = (Move, u64);
@@ -24,12 +25,11 @@ pub fn section() -> Result<Section, String> {
 fn at(n: u64, k: u64) -> Result<Box<dyn Timed>, String> {
     let asks: Vec<Ask> = moves_of(n).into_iter().map(|motion| (motion, k)).collect();
     for (motion, k) in &asks {
-        let archive = library::sample_move(motion.into(), *k);
-        same("sample", archive, expected::sample(sample(motion, *k)))?;
+        agree(&Request::Sample(*motion, *k))?;
     }
     let what = format!("sample {k} of {n}");
     let contest = Contest::new(what, Some(k), asks, Box::new(()))
-        .archive(|(motion, k), _| library::sample_move(motion.into(), *k))
+        .archive(|(motion, k), _| library::sample_move(*motion, *k))
         .against("128-bit planner, iterator", None, |(motion, k), _| {
             summed(motion, *k)
         });

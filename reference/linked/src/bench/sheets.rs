@@ -2,12 +2,11 @@
 
 use super::contest::{Contest, Timed};
 use super::inputs::planned_mix;
-use super::{plain, same, Section};
-use crate::expected;
+use super::{agree, plain, same, Section};
 use crate::library::{self, REPORT_BYTES};
 use reference::planner::Move;
+use reference::request::Request;
 use reference::sheet::{read, render, report, Sheet, SheetMove, SheetRefusal};
-use reference::vectors::sheet::Reading;
 
 /// How many sheets a pass has.
 const SHEETS: usize = 4;
@@ -21,7 +20,8 @@ pub fn section() -> Result<Section, String> {
     let mut contests = Vec::new();
     for moves in [1, 256] {
         for text in texts(moves) {
-            agree(&text)?;
+            agree(&Request::Sheet(text.clone()))?;
+            rivals_agree(&text)?;
         }
         contests.extend([reading(moves), reporting(moves)]);
     }
@@ -83,14 +83,9 @@ fn sheet(bases: &[Move], moves: usize) -> Sheet {
     }
 }
 
-fn agree(text: &Text) -> Result<(), String> {
-    let [mut first, mut second] = [[0; REPORT_BYTES]; 2];
-    let length = library::report(text, &mut first);
-    same("report", &first[..length], &report(text)[..])?;
-    same("report", length, plain::sheet::report(text, &mut second))?;
-    same("report", first, second)?;
-    let sheet = read(text);
-    let numbers = expected::sheet(Reading::of(&sheet));
-    same("sheet", library::read_sheet(text).numbers(), numbers)?;
-    same("sheet", plain::sheet::read(text), sheet.ok())
+fn rivals_agree(text: &Text) -> Result<(), String> {
+    let mut buffer = [0; REPORT_BYTES];
+    let length = plain::sheet::report(text, &mut buffer);
+    same("report", &buffer[..length], &report(text)[..])?;
+    same("sheet", plain::sheet::read(text), read(text).ok())
 }

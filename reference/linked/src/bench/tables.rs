@@ -2,11 +2,11 @@
 
 use super::contest::{Contest, Timed};
 use super::inputs::moves_of;
-use super::{plain, same, Section, PLACES, SAMPLES};
-use crate::expected;
+use super::{agree, plain, same, Section, PLACES, SAMPLES};
 use crate::library::{self, TableResult};
 use reference::planner::Move;
 use reference::profile::{position_table, reference_table, TableAnswer};
+use reference::request::Request;
 
 /// The most of the other's time that a table may take.
 const AIM: Option<f64> = Some(1.0);
@@ -46,27 +46,28 @@ pub fn references() -> Result<Section, String> {
 fn contest(n: u64, entry: impl Entry) -> Result<Contest<Move, Table>, String> {
     let moves = moves_of(n);
     for motion in &moves {
-        agree(motion, entry)?;
+        agree(&Request::Positions(*motion, PLACES as u64))?;
+        agree(&Request::Reference(*motion, PLACES as u64))?;
+        rivals_agree(motion)?;
     }
     let table = vec![0; PLACES].into_boxed_slice();
     let contest = Contest::new(format!("N = {n}"), Some(n), moves, table)
-        .archive(move |motion, table| entry(motion.into(), table))
+        .archive(move |motion, table| entry(*motion, table))
         .against("128-bit planner, loop", AIM, wide)
         .against("64-bit planner, loop", AIM, plain::positions);
     Ok(contest)
 }
 
-fn agree(motion: &Move, entry: impl Entry) -> Result<(), String> {
-    let mut tables = [0; 4].map(|_| vec![-1; PLACES]);
-    let [first, others @ ..] = &mut tables;
-    let archive = (entry(motion.into(), first), &*first);
+fn rivals_agree(motion: &Move) -> Result<(), String> {
     let fills: [fn(&Move, &mut [i64]) -> TableAnswer; 3] =
         [position_table, reference_table, plain::positions];
-    for (fill, table) in fills.into_iter().zip(others) {
-        let rival = expected::table(fill(motion, table));
-        same("table", archive, (rival, &*table))?;
-    }
-    Ok(())
+    let [first, others @ ..] = fills.map(|fill| {
+        let mut table = vec![-1; PLACES];
+        (fill(motion, &mut table), table)
+    });
+    others
+        .into_iter()
+        .try_for_each(|other| same("table", &first, &other))
 }
 
 #[inline(never)]

@@ -1,25 +1,29 @@
-//! `differential [--seed SEED] [--times K]` compares the library with the
-//! reference and fails on any misfit, or if the calls lack something. With
-//! `--times` it makes so many times the calls.
+//! `differential [TIMES [SEED]]` compares the library with the reference and fails
+//! on any misfit, or if a condition was not met. It makes TIMES times the calls.
 
-use linked::differential::command::{options, Options, USAGE};
-use linked::differential::{run, Kind, Proved, Tally};
+use linked::differential::{run, Proved, Tally};
 use std::env;
 use std::process::ExitCode;
 
+/// The seed of the gate, so that its run is always the same one.
+const SEED: u64 = 1_003;
+
 fn main() -> ExitCode {
-    let words: Vec<String> = env::args().skip(1).collect();
-    let Some(Options { seed, times }) = options(&words) else {
-        eprintln!("{USAGE}");
-        return ExitCode::from(2);
+    let words = env::args().skip(1).map(|word| word.parse().ok());
+    let (times, seed): (u64, u64) = match words.collect::<Option<Vec<u64>>>().as_deref() {
+        Some([]) => (1, SEED),
+        Some([times]) if *times > 0 => (*times, SEED),
+        Some([times, seed]) if *times > 0 => (*times, *seed),
+        _ => {
+            eprintln!("usage: differential [TIMES [SEED]]");
+            return ExitCode::from(2);
+        }
     };
     println!("seed {seed}, times {times}");
-    let calls = |kind: &Kind| kind.calls.saturating_mul(times);
     let mut good = true;
-    for (kind, tally) in run(&Proved, seed, calls) {
-        let missing = kind.missing(calls(kind), &tally);
-        print(kind, &tally, &missing);
-        good &= missing.is_empty() && tally.misfits == 0;
+    for (kind, tally) in run(&Proved, seed, |kind| kind.calls.saturating_mul(times)) {
+        print(kind.name, &tally);
+        good &= tally.good();
     }
     match good {
         true => ExitCode::SUCCESS,
@@ -27,12 +31,12 @@ fn main() -> ExitCode {
     }
 }
 
-fn print(kind: &Kind, tally: &Tally, missing: &[String]) {
-    println!("{}", tally.line(kind.name));
-    for words in &tally.printed {
-        println!("misfit: {words}");
-    }
-    for condition in missing {
-        println!("not met: {condition}");
+fn print(name: &str, tally: &Tally) {
+    let (calls, percent, misfits) = (tally.calls, tally.percent(), tally.misfits);
+    println!("{name}: {calls} calls, {percent:.1} % accepted, {misfits} misfits");
+    let found = tally.printed.iter().map(|words| format!("misfit: {words}"));
+    let unmet = tally.unmet.iter().map(|name| format!("not met: {name}"));
+    for line in found.chain(unmet) {
+        println!("{line}");
     }
 }

@@ -1,42 +1,41 @@
-//! What is sent and answered in other forms.
+//! Each answer as a list of all its fields, in the order of
+//! `reference::request::Outcome`.
 
-use super::layout::{Machine, Move, SheetResult};
-use reference::{force, planner};
+use super::layout::{PlanResult, SampleResult, SheetResult, TableResult};
 
-impl From<&planner::Move> for Move {
-    fn from(motion: &planner::Move) -> Move {
-        Move {
-            displacement: motion.displacement,
-            velocity: motion.velocity,
-            acceleration: motion.acceleration,
-            jerk: motion.jerk,
-            snap: motion.snap,
-        }
+impl PlanResult {
+    pub fn fields(&self) -> Vec<i128> {
+        let head = [self.refusal, self.samples];
+        let plan = [self.a, self.b, self.c, self.e, self.snap, self.shortfall];
+        head.into_iter().chain(plan).map(i128::from).collect()
     }
 }
 
-impl From<&force::Machine> for Machine {
-    fn from(machine: &force::Machine) -> Machine {
-        Machine {
-            m1: machine.m1,
-            m2: machine.m2,
-            k1: machine.k1,
-            k2: machine.k2,
-            k12: machine.k12,
-            c: machine.c,
-        }
+impl SampleResult {
+    pub fn fields(&self) -> Vec<i128> {
+        let values = [self.snap, self.jerk, self.acceleration, self.velocity];
+        let mut list = vec![self.refusal.into()];
+        list.extend(values.map(i128::from));
+        list.extend([self.position, self.count].map(i128::from));
+        list
+    }
+}
+
+impl TableResult {
+    pub fn fields(&self) -> Vec<i128> {
+        vec![self.refusal.into(), self.rows.into()]
     }
 }
 
 impl SheetResult {
-    /// Refusal, line, numbers of sets and moves, and then all places.
-    pub fn numbers(&self) -> Vec<u64> {
-        let mut list = vec![self.refusal, self.line, self.set_count, self.move_count];
+    pub fn fields(&self) -> Vec<i128> {
+        let head = [self.refusal, self.line, self.set_count, self.move_count];
+        let mut list = head.map(i128::from).to_vec();
         for set in &self.sets {
-            list.extend([set.velocity, set.acceleration, set.jerk, set.snap]);
+            list.extend([set.velocity, set.acceleration, set.jerk, set.snap].map(i128::from));
         }
         for entry in &self.moves {
-            list.extend([entry.displacement as u64, entry.set]);
+            list.extend([i128::from(entry.displacement), entry.set.into()]);
         }
         list
     }

@@ -8,27 +8,6 @@ pub const MOST_SETS: usize = 16;
 pub const MOST_MOVES: usize = 256;
 
 #[repr(C)]
-#[derive(Clone, Copy, Debug)]
-pub struct Move {
-    pub displacement: i64,
-    pub velocity: u64,
-    pub acceleration: u64,
-    pub jerk: u64,
-    pub snap: u64,
-}
-
-#[repr(C)]
-#[derive(Clone, Copy, Debug)]
-pub struct Machine {
-    pub m1: f64,
-    pub m2: f64,
-    pub k1: f64,
-    pub k2: f64,
-    pub k12: f64,
-    pub c: f64,
-}
-
-#[repr(C)]
 #[derive(Clone, Copy, Debug, PartialEq, Eq)]
 pub struct PlanResult {
     pub refusal: u64,

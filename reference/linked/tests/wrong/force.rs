@@ -1,6 +1,8 @@
 use super::assert_found;
 use linked::differential::{Entries, Lent, Proved};
 use linked::library::{Machine, Move, TableResult};
+use reference::force::{write_rows, Coefficients, Drive};
+use reference::profile::Profile;
 
 /// The last row with its last bit changed.
 struct OneBit;
@@ -37,4 +39,25 @@ impl Entries for MinusZero {
 #[test]
 fn a_zero_with_the_other_sign() {
     assert_found(&MinusZero, "force", "library: place 0 holds -0.0");
+}
+
+/// A minus zero of the machine stays one, which only a machine without mass and
+/// damping beside k12 shows.
+struct MinusZeroKept;
+
+impl Entries for MinusZeroKept {
+    fn fill_force(&self, motion: Move, machine: Machine, table: &mut Lent<f64>) -> TableResult {
+        let result = Proved.fill_force(motion, machine, table);
+        if let (0, Ok(profile)) = (result.refusal, Profile::of(&motion)) {
+            let rows = &mut table.places()[..result.rows as usize];
+            let (q, drive) = (Coefficients::of(&machine), Drive::of(&machine));
+            write_rows(&profile, &q, drive, rows);
+        }
+        result
+    }
+}
+
+#[test]
+fn a_minus_zero_that_is_kept() {
+    assert_found(&MinusZeroKept, "force", "holds -0.0");
 }

@@ -17,21 +17,23 @@ impl Entries for NoEnd {
 
 #[test]
 fn a_sample_after_the_end() {
-    assert_found(&NoEnd, "samples", "refusal: 9");
+    assert_found(&NoEnd, "sample", "reference: refusal 9");
 }
 
-/// Counts rounded down.
-struct CountBelow;
+/// Halves rounded towards zero.
+struct HalfTowardsZero;
 
-impl Entries for CountBelow {
+impl Entries for HalfTowardsZero {
     fn sample_move(&self, motion: Move, sample: u64) -> SampleResult {
         let mut result = Proved.sample_move(motion, sample);
-        result.count = result.position >> 40;
+        if result.position.unsigned_abs() % (1 << 40) == 1 << 39 {
+            result.count -= result.position.signum();
+        }
         result
     }
 }
 
 #[test]
-fn a_count_that_is_not_the_nearest() {
-    assert_found(&CountBelow, "samples", "count");
+fn a_half_count_towards_zero() {
+    assert_found(&HalfTowardsZero, "sample", "from field 6 on");
 }

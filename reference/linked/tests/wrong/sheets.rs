@@ -15,7 +15,7 @@ impl Entries for LineBefore {
 
 #[test]
 fn a_line_that_is_one_less() {
-    assert_found(&LineBefore, "sheets", "library: reads [11, ");
+    assert_found(&LineBefore, "sheet", "refusal 11, from field 1 on");
 }
 
 /// A set number in the last place, which only the longest sheets use.
@@ -31,7 +31,7 @@ impl Entries for UnusedPlace {
 
 #[test]
 fn an_unused_place_that_is_not_0() {
-    assert_found(&UnusedPlace, "sheets", "from number 579 on [1]");
+    assert_found(&UnusedPlace, "sheet", "from field 579 on [1]");
 }
 
 /// A zero byte after the report.
@@ -47,5 +47,5 @@ impl Entries for ZeroByte {
 
 #[test]
 fn a_byte_after_the_report() {
-    assert_found(&ZeroByte, "sheets", "in the report");
+    assert_found(&ZeroByte, "sheet", "library: place");
 }

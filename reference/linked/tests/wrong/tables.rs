@@ -72,5 +72,5 @@ impl Entries for LastRow {
 
 #[test]
 fn a_number_of_rows_that_is_one_less() {
-    assert_found(&LastRow, "positions", "rows");
+    assert_found(&LastRow, "positions", "from field 1 on");
 }

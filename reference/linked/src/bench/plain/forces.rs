@@ -1,6 +1,6 @@
 //! Forces of a rigid or a filtered drive.
 
-use super::{planned, segments};
+use super::planned;
 use reference::force::{Coefficients, Drive, Machine};
 use reference::planner::Move;
 use reference::profile::{Segment, TableAnswer};
@@ -15,12 +15,11 @@ pub fn forces(motion: &Move, machine: &Machine, table: &mut [f64]) -> TableAnswe
         return TableAnswer::Refused(10);
     };
     let q = Coefficients::of(&machine);
-    let segments = segments(&plan);
     match Drive::of(&machine) {
-        Drive::Rigid { c } => fill(&segments, &q, table, |u| u / c),
+        Drive::Rigid { c } => fill(&plan.segments, &q, table, |u| u / c),
         Drive::Filtered { alpha, beta } => {
             let (mut y, mut u_before) = (0.0, 0.0);
-            fill(&segments, &q, table, |u| {
+            fill(&plan.segments, &q, table, |u| {
                 y = alpha * y + beta * (u + u_before);
                 u_before = u;
                 y

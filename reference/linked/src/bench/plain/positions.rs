@@ -1,6 +1,6 @@
 //! Positions, and so reference rows.
 
-use super::{planned, segments};
+use super::planned;
 use reference::planner::Move;
 use reference::profile::TableAnswer;
 
@@ -12,7 +12,7 @@ pub fn positions(motion: &Move, table: &mut [i64]) -> TableAnswer {
     };
     let (mut jerk, mut acceleration, mut velocity, mut position) = (0, 0, 0, 0);
     let mut rest = table;
-    for segment in segments(&plan) {
+    for segment in &plan.segments {
         let (places, after) = rest.split_at_mut(segment.samples);
         for place in places {
             *place = position;

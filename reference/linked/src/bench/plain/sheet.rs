@@ -1,8 +1,9 @@
 //! Reading a sheet in one pass, and the report of it.
 
 use super::output::Output;
+use super::plan_narrow;
 use crate::library::{MOST_MOVES, MOST_SETS, REPORT_BYTES};
-use reference::planner::{durations, plan_narrow, Answer, Move};
+use reference::planner::{durations, Answer, Move};
 use reference::sheet::{self, Sheet, SheetMove};
 
 /// The sheet, if the text is one. Only a bad sheet needs the exact line.

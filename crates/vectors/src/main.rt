@@ -1,0 +1,60 @@
+// Answers each request of standard input. It holds no expectation: the stored answers are those of the reference, which was written from
+// the paper alone.
+//
+// A request is a line: a letter, numbers with one space before each, and byte 10. A number is decimal, and X may have a minus; or it is
+// `x` and hexadecimal digits in lower case. The machine's numbers m1 to c are the bits of floats. The requests and their answers:
+//
+// p X V A J S: planned a b c e D shortfall
+// s X V A J S k: sample snap jerk acceleration velocity position count
+// t X V A J S places first: rows R, places of the position table, sum S
+// r X V A J S places first: rows R, places of the reference table, sum S
+// f X V A J S m1 m2 k1 k2 k12 c places first: rows R, places of the force table as the bits of floats, sum S
+// b n length: read SETS MOVES sum S, or refused 11 line L sum S, or refused 12 sum S; then the report
+//
+// A move that is refused has `refused N` for its plan, its sample or its rows. A table is lent with the number of places that is asked for,
+// at most 4,200, and written from place `first` on, at most 12 places. The n bytes after a line of kind b are the start of a sheet's text,
+// which zeros fill up to its length: n is at most the length, and that at most 65,536. The sum is taken over every place after the call,
+// those of a sheet's sets and moves too. It starts at 0, and each place makes it 33 times itself and the place's 64 bits, modulo 2^64.
+mod forces;
+mod moves;
+mod numbers;
+mod positions;
+mod sheets;
+mod sums;
+mod tables;
+mod writing;
+
+use crate::forces::answer_forces;
+use crate::moves::answer_plan;
+use crate::moves::answer_sample;
+use crate::numbers::read_byte;
+use crate::positions::answer_positions;
+use crate::sheets::answer_sheet;
+
+// The count of requests is bounded, so that the loop ends whatever is read.
+fn main() {
+    let mut left = 1_000_000u64;
+    while 0 < left {
+        let kind = read_byte();
+        if kind == 0 {
+            return;
+        }
+        answer(kind);
+        left -= 1;
+    }
+}
+
+// Skips the space after the letter, and answers what is asked for.
+fn answer(kind: u8) {
+    read_byte();
+    match kind {
+        b'p' => answer_plan(),
+        b's' => answer_sample(),
+        b't' | b'r' => answer_positions(kind),
+        b'f' => answer_forces(),
+        b'b' => answer_sheet(),
+        _ => {
+            io::write_all(1, b"unknown kind\n");
+        }
+    }
+}

@@ -1,0 +1,285 @@
+//! What the requests of a run must contain: a table of conditions for each kind,
+//! checked by the run that makes the requests.
+
+mod case;
+
+pub use case::Case;
+
+use crate::draw::machines::{ABOVE_LARGEST, BELOW_STIFFNESS, LEAST};
+use crate::draw::moves::{BOUND_EDGES, DISPLACEMENT_EDGES};
+use crate::force::{Coefficients, Drive, Machine, LARGEST_NUMBER, LEAST_STIFFNESS};
+use crate::sheet::LARGEST_TEXT;
+use std::ops::RangeInclusive;
+
+/// In words, and whether a request meets it.
+pub struct Condition {
+    pub name: String,
+    pub met: Box<dyn Fn(&Case) -> bool>,
+}
+
+type Table = Vec<Condition>;
+
+fn row(name: impl Into<String>, met: impl Fn(&Case) -> bool + 'static) -> Condition {
+    let (name, met) = (name.into(), Box::new(met));
+    Condition { name, met }
+}
+
+/// The same of a request that is accepted.
+fn accepted(name: impl Into<String>, met: impl Fn(&Case) -> bool + 'static) -> Condition {
+    row(name, move |case| case.accepted() && met(case))
+}
+
+const SEARCHES: [&str; 10] = [
+    "a by W", "a by V", "a by A", "a by J", "b by W", "b by V", "b by A", "c by W", "c by V",
+    "e by W",
+];
+
+pub fn plan() -> Table {
+    joined([refusals(1..=7), moves(), edges()])
+}
+
+pub fn sample() -> Table {
+    joined([refusals(1..=7), refusals(9..=9), moves(), samples()])
+}
+
+pub fn table() -> Table {
+    joined([refusals(1..=8), moves(), places(1)])
+}
+
+pub fn force() -> Table {
+    let machines = joined([places(2), machines(), machine_edges(), rows()]);
+    joined([refusals(1..=8), refusals(10..=10), moves(), machines])
+}
+
+pub fn sheet() -> Table {
+    joined([refusals(11..=12), lines(), sizes(), reports()])
+}
+
+fn joined<const COUNT: usize>(tables: [Table; COUNT]) -> Table {
+    tables.into_iter().flatten().collect()
+}
+
+fn refusals(numbers: RangeInclusive<i128>) -> Table {
+    let refused = |number| {
+        let name = format!("refusal {number}");
+        row(name, move |case| case.refusal() == number)
+    };
+    numbers.map(refused).collect()
+}
+
+/// Both directions, the most samples and one more; each search, and each "never
+/// below", decides alone in a move that is accepted.
+fn moves() -> Table {
+    let mut table = vec![
+        accepted("X > 0", |case| case.x() > 0),
+        accepted("X < 0", |case| case.x() < 0),
+        accepted("N = 4,096", |case| case.n() == 4_096),
+        row("N = 4,097", |case| case.n() == 4_097),
+    ];
+    for (search, name) in SEARCHES.into_iter().enumerate() {
+        let decides = move |case: &Case| case.decides(search);
+        table.push(accepted(format!("{name} decides"), decides));
+    }
+    for (interval, name) in [(1, "b"), (2, "c"), (3, "e")] {
+        let limits = move |case: &Case| case.limits(interval);
+        table.push(accepted(format!("{name} by its lower limit"), limits));
+    }
+    table
+}
+
+/// Each search with equality; products that do not fit 64 bits, a quotient that
+/// does not fit a float; every edge of each number.
+fn edges() -> Table {
+    let mut table = vec![accepted("W/P in floats", |case| case.float_rounds_up())];
+    for (search, name) in SEARCHES.into_iter().enumerate() {
+        let equal = move |case: &Case| case.equal(search);
+        table.push(accepted(format!("{name} with equality"), equal));
+    }
+    for search in [0, 4, 7] {
+        let wraps = move |case: &Case| case.wraps(search);
+        table.push(accepted(format!("{} in 64 bits", SEARCHES[search]), wraps));
+    }
+    for (edge, refusal) in DISPLACEMENT_EDGES {
+        let at = move |case: &Case| case.x() == edge && case.refusal() == refusal;
+        table.push(row(format!("X = {edge}"), at));
+    }
+    for (place, name) in ["V", "A", "J", "S"].into_iter().enumerate() {
+        for (edge, inside) in BOUND_EDGES {
+            let refusal = 3 + place as i128;
+            let decides = move |case: &Case| match inside {
+                true => case.accepted() || case.refusal() == 7,
+                false => case.refusal() == refusal,
+            };
+            let at = move |case: &Case| case.bounds()[place] == edge && decides(case);
+            table.push(row(format!("{name} = {edge}"), at));
+        }
+    }
+    table
+}
+
+/// The first and the last samples; positions at a half count, and a unit short of it.
+fn samples() -> Table {
+    let past_end =
+        |name, met: fn(&Case) -> bool| row(name, move |case| case.refusal() == 9 && met(case));
+    let mut table = vec![
+        accepted("k = 0", |case| case.k() == 0),
+        accepted("k = N", |case| case.k() == case.n()),
+        past_end("k = N+1", |case| case.k() == case.n() + 1),
+        past_end("k = N+2^32", |case| case.k() == case.n() + (1 << 32)),
+        past_end("k = 2^64-1", |case| case.k() == u64::MAX.into()),
+        row("7 and 9", |case| case.refusal() == 7 && case.k() > case.n()),
+    ];
+    for direction in [1, -1] {
+        for distance in [-1, 0] {
+            let name = format!("{distance} units from a half count, direction {direction}");
+            let near = move |case: &Case| case.beyond_half() == [direction, distance];
+            table.push(row(name, near));
+        }
+    }
+    table
+}
+
+/// Tables for N and `more` rows.
+fn places(more: i128) -> Table {
+    let short = |case: &Case| case.refusal() == 8;
+    vec![
+        row("7 and 8", |case| case.refusal() == 7 && case.places() == 0),
+        row("no places", move |case| short(case) && case.places() == 0),
+        row("one place too few", move |case| {
+            short(case) && case.places() == case.n() as i128 + more - 1
+        }),
+        accepted("just enough", |case| case.places() == case.field(1)),
+        accepted("more places", |case| case.places() > case.field(1)),
+    ]
+}
+
+/// Both drives, and a machine that is wrong beside a lower refusal.
+fn machines() -> Table {
+    let k12 = |case: &Case| case.machine()[4];
+    let wrong = |case: &Case| case.wrong_machine();
+    vec![
+        row("7 and 10", move |case| case.refusal() == 7 && wrong(case)),
+        row("8 and 10", move |case| case.refusal() == 8 && wrong(case)),
+        accepted("rigid", move |case| k12(case) == 0.0),
+        accepted("filtered", move |case| k12(case) > 1e-30),
+    ]
+}
+
+/// Rows that would be others with a wrong rule: a k12 below 2^-1022 taken for 0, the
+/// sums of q2 or q3 from the right, a minus zero kept in all numbers or in a mass.
+fn rows() -> Table {
+    let tiny = |case: &Case| (LEAST..f64::MIN_POSITIVE).contains(&case.machine()[4]);
+    let rigid = |read: Machine, _: &Machine| (Coefficients::of(&read), Drive::Rigid { c: read.c });
+    let mut table = vec![
+        accepted("a tiny k12", move |case| tiny(case) && case.differs(rigid)),
+        accepted("q2", |case| {
+            case.differs(|read, _| (from_right(&read, true), Drive::of(&read)))
+        }),
+        accepted("q3", |case| {
+            case.differs(|read, _| (from_right(&read, false), Drive::of(&read)))
+        }),
+    ];
+    for direction in [1, -1] {
+        let kept = |_: Machine, sent: &Machine| (Coefficients::of(sent), Drive::of(sent));
+        let shows = move |case: &Case| case.x().signum() == direction && case.differs(kept);
+        table.push(accepted(
+            format!("minus zeros, direction {direction}"),
+            shows,
+        ));
+    }
+    for place in [0, 1] {
+        let kept = move |read: Machine, sent: &Machine| {
+            let mut numbers = read.numbers();
+            numbers[place] = sent.numbers()[place];
+            (Coefficients::of(&Machine::new(numbers)), Drive::of(&read))
+        };
+        table.push(accepted(
+            format!("minus zero for mass {}", place + 1),
+            move |case| case.differs(kept),
+        ));
+    }
+    table
+}
+
+/// The factors with the sums of q2, or of q3, from the right.
+fn from_right(machine: &Machine, second: bool) -> Coefficients {
+    let [m1, m2, k1, k2, k12, c] = machine.numbers();
+    let q = Coefficients::of(machine);
+    let q2 = (m1 + m2) * k12 + (m1 * k2 + m2 * k1);
+    let q3 = (m1 + m2) * c + (k1 * k2 + (k1 + k2) * k12);
+    match second {
+        true => Coefficients { q2, ..q },
+        false => Coefficients { q3, ..q },
+    }
+}
+
+/// Each number at its ends, next to them, and no number at all.
+fn machine_edges() -> Table {
+    let c = [(LEAST_STIFFNESS, 0), (BELOW_STIFFNESS, 10), (0.0, 10)];
+    let mut edges = c.map(|(edge, refusal)| (5, edge, refusal)).to_vec();
+    for place in 0..6 {
+        edges.push((place, LARGEST_NUMBER, 0));
+        let wrong = [ABOVE_LARGEST, -LEAST, -1.0, f64::INFINITY, f64::NAN];
+        edges.extend(wrong.map(|edge| (place, edge, 10)));
+    }
+    let at = |(place, edge, refusal): (usize, f64, i128)| {
+        let name = format!("number {} of the machine is {edge:e}", place + 1);
+        let is = move |case: &Case| case.machine()[place].to_bits() == edge.to_bits();
+        row(name, move |case| is(case) && case.refusal() == refusal)
+    };
+    edges.into_iter().map(at).collect()
+}
+
+/// Each kind of line in which a text cannot go on, and the end after the last.
+fn lines() -> Table {
+    let places = [
+        "the first count",
+        "a set",
+        "the second count",
+        "a move",
+        "the end",
+    ];
+    let stops = |place| {
+        row(format!("11 in {place}"), move |case| {
+            case.stops_in() == place
+        })
+    };
+    places.map(stops).into()
+}
+
+/// The least and the most sets, moves and bytes, and one more.
+fn sizes() -> Table {
+    vec![
+        row("1 set", |case| case.field(2) == 1),
+        row("16 sets", |case| case.field(2) == 16),
+        row("17 sets", |case| {
+            case.text().starts_with(b"17\n") && case.stops_in() == "the first count"
+        }),
+        row("1 move", |case| case.field(3) == 1),
+        row("256 moves", |case| case.field(3) == 256),
+        row("256 planned moves", |case| {
+            case.field(3) == 256 && !holds(&case.report(), "refused")
+        }),
+        row("257 moves", |case| {
+            holds(case.text(), "\n257\n") && case.stops_in() == "the second count"
+        }),
+        row("no bytes", |case| case.text().is_empty()),
+        row("65,535 bytes", |case| case.text().len() == LARGEST_TEXT),
+        row("65,536 bytes", |case| case.text().len() == LARGEST_TEXT + 1),
+    ]
+}
+
+fn reports() -> Table {
+    let refused = (1..=7).map(|number| format!("refused {number}\n"));
+    let planned = ["snap -", "snap 1", "short 0\n"].map(String::from);
+    let in_report = |part: String| {
+        let name = format!("{part:?} in a report");
+        row(name, move |case| holds(&case.report(), &part))
+    };
+    refused.chain(planned).map(in_report).collect()
+}
+
+fn holds(text: &[u8], part: &str) -> bool {
+    text.windows(part.len())
+        .any(|bytes| bytes == part.as_bytes())
+}

@@ -1,0 +1,137 @@
+//! The kinds of requests, one for each entry: how they are drawn, what a run of
+//! them must contain, and how many there are.
+
+use crate::conditions::{self, Case, Condition};
+use crate::draw::{machines, moves, samples, texts, Random};
+use crate::request::{Outcome, Request};
+use std::vec::IntoIter;
+
+pub struct Kind {
+    pub name: &'static str,
+    /// The calls of the differential test.
+    pub calls: u64,
+    /// Requests that every run sends first, and how the others are drawn.
+    pub fixed: fn() -> Vec<Request>,
+    pub draw: fn(&mut Random) -> Request,
+    pub conditions: fn() -> Vec<Condition>,
+}
+
+pub const KINDS: [Kind; 6] = [
+    Kind {
+        name: "plan",
+        calls: 1_000_000,
+        fixed: Vec::new,
+        draw: |random| Request::Plan(moves::any(random)),
+        conditions: conditions::plan,
+    },
+    Kind {
+        name: "sample",
+        calls: 100_000,
+        fixed: Vec::new,
+        draw: |random| {
+            let motion = moves::any(random);
+            Request::Sample(motion, samples::sample(&motion, random))
+        },
+        conditions: conditions::sample,
+    },
+    Kind {
+        name: "positions",
+        calls: 2_000,
+        fixed: Vec::new,
+        draw: |random| {
+            let motion = moves::any(random);
+            Request::Positions(motion, samples::places(&motion, 1, random))
+        },
+        conditions: conditions::table,
+    },
+    Kind {
+        name: "reference",
+        calls: 2_000,
+        fixed: Vec::new,
+        draw: |random| {
+            let motion = moves::any(random);
+            Request::Reference(motion, samples::places(&motion, 1, random))
+        },
+        conditions: conditions::table,
+    },
+    Kind {
+        name: "force",
+        calls: 1_000,
+        fixed: Vec::new,
+        draw: |random| {
+            let motion = moves::any(random);
+            let places = samples::places(&motion, 2, random);
+            Request::Force(motion, machines::any(random), places)
+        },
+        conditions: conditions::force,
+    },
+    Kind {
+        name: "sheet",
+        calls: 20_000,
+        fixed: || texts::edited().into_iter().map(Request::Sheet).collect(),
+        draw: |random| Request::Sheet(texts::any(random)),
+        conditions: conditions::sheet,
+    },
+];
+
+/// Requests drawn in vain before the conditions that are left are given up.
+const MOST_DRAWS: u64 = 500_000;
+
+/// Requests of one kind from a seed: the fixed ones; then such as meet a condition
+/// that is left; then as they come.
+pub struct Requests {
+    kind: &'static Kind,
+    fixed: IntoIter<Request>,
+    random: Random,
+    unmet: Vec<Condition>,
+    draws_left: u64,
+}
+
+impl Requests {
+    pub fn new(kind: &'static Kind, seed: u64) -> Requests {
+        Requests {
+            kind,
+            fixed: (kind.fixed)().into_iter(),
+            random: Random::new(seed),
+            unmet: (kind.conditions)(),
+            draws_left: MOST_DRAWS,
+        }
+    }
+
+    /// The next request that fits, with what the reference says to it.
+    pub fn draw(&mut self, fits: impl Fn(&Request, &Outcome) -> bool) -> (Request, Outcome) {
+        loop {
+            let fixed = self.fixed.next();
+            let is_fixed = fixed.is_some();
+            let request = fixed.unwrap_or_else(|| (self.kind.draw)(&mut self.random));
+            let outcome = request.expected();
+            if !fits(&request, &outcome) {
+                continue;
+            }
+            let before = self.unmet.len();
+            let case = Case {
+                request: &request,
+                outcome: &outcome,
+            };
+            self.unmet.retain(|condition| !(condition.met)(&case));
+            if is_fixed || self.unmet.len() < before || self.settled() {
+                return (request, outcome);
+            }
+            self.draws_left -= 1;
+        }
+    }
+
+    /// Whether the fixed ones are sent, and every condition is met or given up.
+    pub fn settled(&self) -> bool {
+        let given_up = self.draws_left == 0;
+        self.fixed.len() == 0 && (self.unmet.is_empty() || given_up)
+    }
+
+    /// The conditions that no request has met yet.
+    pub fn unmet(&self) -> Vec<String> {
+        self.unmet
+            .iter()
+            .map(|condition| condition.name.clone())
+            .collect()
+    }
+}

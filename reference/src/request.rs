@@ -1,0 +1,170 @@
+//! A call of an entry, and all that the paper says it gives.
+
+use crate::force::{force_table, Machine};
+use crate::planner::{plan, Answer, Move};
+use crate::profile::{position_table, reference_table, sample, SampleAnswer, TableAnswer};
+use crate::sheet::{self, SheetRefusal, MOST_MOVES, MOST_SETS};
+
+/// What is sent to an entry; a table is lent with so many places.
+#[derive(Clone, Debug)]
+pub enum Request {
+    Plan(Move),
+    Sample(Move, u64),
+    Positions(Move, u64),
+    Reference(Move, u64),
+    Force(Move, Machine, u64),
+    Sheet(Vec<u8>),
+}
+
+/// What an entry gives.
+#[derive(Clone, Debug)]
+pub struct Outcome {
+    /// The refusal, 0 for none, and then every other field of the answer.
+    pub fields: Vec<i128>,
+    /// What is written to the lent table or buffer from its first place on, each
+    /// place as its bits; every other place keeps what it held.
+    pub rows: Vec<u64>,
+}
+
+impl Outcome {
+    pub fn refusal(&self) -> i128 {
+        self.fields[0]
+    }
+
+    pub fn accepted(&self) -> bool {
+        self.refusal() == 0
+    }
+}
+
+impl Request {
+    /// The move that is sent; a sheet has many.
+    pub fn motion(&self) -> Option<&Move> {
+        match self {
+            Request::Plan(motion)
+            | Request::Sample(motion, _)
+            | Request::Positions(motion, _)
+            | Request::Reference(motion, _)
+            | Request::Force(motion, _, _) => Some(motion),
+            Request::Sheet(_) => None,
+        }
+    }
+
+    /// The places that are lent for rows.
+    pub fn places(&self) -> Option<u64> {
+        match self {
+            Request::Positions(_, places)
+            | Request::Reference(_, places)
+            | Request::Force(_, _, places) => Some(*places),
+            Request::Plan(_) | Request::Sample(..) | Request::Sheet(_) => None,
+        }
+    }
+
+    /// What the reference says.
+    pub fn expected(&self) -> Outcome {
+        match self {
+            Request::Plan(motion) => fields_alone(plan_fields(plan(motion))),
+            Request::Sample(motion, k) => fields_alone(sample_fields(sample(motion, *k))),
+            Request::Positions(motion, places) => filled(
+                *places,
+                |table| position_table(motion, table),
+                |row: i64| row as u64,
+            ),
+            Request::Reference(motion, places) => filled(
+                *places,
+                |table| reference_table(motion, table),
+                |row: i64| row as u64,
+            ),
+            Request::Force(motion, machine, places) => filled(
+                *places,
+                |table| force_table(motion, machine, table),
+                f64::to_bits,
+            ),
+            Request::Sheet(text) => Outcome {
+                fields: sheet_fields(text),
+                rows: sheet::report(text).into_iter().map(u64::from).collect(),
+            },
+        }
+    }
+}
+
+fn fields_alone(fields: Vec<i128>) -> Outcome {
+    let rows = Vec::new();
+    Outcome { fields, rows }
+}
+
+/// Refusal, N, a, b, c, e, D and shortfall.
+fn plan_fields(answer: Answer) -> Vec<i128> {
+    let values = match answer {
+        Answer::Refused(number) => [number.into(), 0, 0, 0, 0, 0, 0, 0],
+        Answer::Planned {
+            a,
+            b,
+            c,
+            e,
+            snap,
+            shortfall,
+        } => [0, a + b + c + e, a, b, c, e, snap, shortfall],
+    };
+    values.map(i128::from).to_vec()
+}
+
+/// Refusal, snap, jerk, acceleration, velocity, position and count.
+fn sample_fields(answer: SampleAnswer) -> Vec<i128> {
+    let values = match answer {
+        SampleAnswer::Refused(number) => [number.into(), 0, 0, 0, 0, 0, 0],
+        SampleAnswer::Sampled(sample) => {
+            let [snap, jerk, acceleration, velocity, position] = sample.values();
+            [
+                0,
+                snap,
+                jerk,
+                acceleration,
+                velocity,
+                position,
+                sample.count,
+            ]
+        }
+    };
+    values.map(i128::from).to_vec()
+}
+
+/// Refusal and number of rows; and the rows.
+fn filled<T: Copy + Default>(
+    places: u64,
+    fill: impl FnOnce(&mut [T]) -> TableAnswer,
+    bits: fn(T) -> u64,
+) -> Outcome {
+    let mut table = vec![T::default(); places as usize];
+    let [refusal, rows] = match fill(&mut table) {
+        TableAnswer::Refused(number) => [number.into(), 0],
+        TableAnswer::Written(rows) => [0, rows],
+    };
+    Outcome {
+        fields: vec![refusal.into(), rows.into()],
+        rows: table.into_iter().take(rows as usize).map(bits).collect(),
+    }
+}
+
+/// Refusal, line, numbers of sets and of moves; V A J S of every set and X and
+/// the set number of every move, 0 at the places that the sheet does not use.
+fn sheet_fields(text: &[u8]) -> Vec<i128> {
+    let read = sheet::read(text);
+    let (sets, moves) = match &read {
+        Ok(sheet) => (&sheet.sets[..], &sheet.moves[..]),
+        Err(_) => (&[][..], &[][..]),
+    };
+    let [refusal, line] = match &read {
+        Ok(_) => [0, 0],
+        Err(SheetRefusal::Malformed { line }) => [11, *line],
+        Err(SheetRefusal::TooLong) => [12, 0],
+    };
+    let mut fields = vec![refusal, line, sets.len() as u64, moves.len() as u64];
+    fields.extend(sets.iter().flatten());
+    fields.resize(4 + 4 * MOST_SETS as usize, 0);
+    let mut fields: Vec<i128> = fields.into_iter().map(i128::from).collect();
+    for entry in moves {
+        fields.extend([i128::from(entry.displacement), entry.set.into()]);
+    }
+    fields.resize(4 + 4 * MOST_SETS as usize + 2 * MOST_MOVES as usize, 0);
+    fields
+}

@@ -1,0 +1,20 @@
+//! Requests about document 01's own values: its moves in both directions, the first
+//! one's samples and tables, the three forces, the sheet.
+
+use crate::draw::paper;
+use crate::request::Request;
+
+/// Places of a table that are lent for a move of 8 samples, three too many.
+const PLACES: u64 = 12;
+
+pub fn requests() -> Vec<Request> {
+    let moves = paper::moves();
+    let first = moves[0];
+    let mut list: Vec<Request> = moves.into_iter().map(Request::Plan).collect();
+    list.extend((0..=8).map(|k| Request::Sample(first, k)));
+    list.push(Request::Positions(first, PLACES));
+    list.push(Request::Reference(first, PLACES));
+    list.extend(paper::machines().map(|machine| Request::Force(first, machine, PLACES)));
+    list.push(Request::Sheet(paper::SHEET.to_vec()));
+    list
+}
