@@ -3,6 +3,7 @@
 
 use crate::conditions::{self, Case, Condition};
 use crate::draw::{machines, moves, samples, texts, Random};
+use crate::planner::Move;
 use crate::request::{Outcome, Request};
 use std::vec::IntoIter;
 
@@ -38,20 +39,14 @@ pub const KINDS: [Kind; 6] = [
         name: "positions",
         calls: 2_000,
         fixed: Vec::new,
-        draw: |random| {
-            let motion = moves::any(random);
-            Request::Positions(motion, samples::places(&motion, 1, random))
-        },
+        draw: |random| with_places(1, random, Request::Positions),
         conditions: conditions::table,
     },
     Kind {
         name: "reference",
         calls: 2_000,
         fixed: Vec::new,
-        draw: |random| {
-            let motion = moves::any(random);
-            Request::Reference(motion, samples::places(&motion, 1, random))
-        },
+        draw: |random| with_places(1, random, Request::Reference),
         conditions: conditions::table,
     },
     Kind {
@@ -73,6 +68,16 @@ pub const KINDS: [Kind; 6] = [
         conditions: conditions::sheet,
     },
 ];
+
+/// A request for a table of N and `more` rows of any move.
+fn with_places(
+    more: u64,
+    random: &mut Random,
+    request: impl FnOnce(Move, u64) -> Request,
+) -> Request {
+    let motion = moves::any(random);
+    request(motion, samples::places(&motion, more, random))
+}
 
 /// Requests drawn in vain before the conditions that are left are given up.
 const MOST_DRAWS: u64 = 500_000;

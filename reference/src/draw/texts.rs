@@ -22,7 +22,7 @@ const NUMBERS: &str = "|0|2|01|-1|-0|+1|-01|-|--1|1.0|:|1/|1 1|16|17|256|257|655
 /// signs, the neighbours of the digits, used bytes with the highest bit.
 const BYTES: &[u8] = b"0 \n\r\t-\0/1+:9\x0B\xFF,._a\x8A\xA0\xB1";
 
-/// Any text; six in ten are sheets.
+/// Any text; two in three are sheets.
 pub fn any(random: &mut Random) -> Text {
     match random.below(16) {
         0 => paper::SHEET.to_vec(),
@@ -53,7 +53,7 @@ pub fn edited() -> Vec<Text> {
     texts
 }
 
-/// A sheet of any moves; few are large.
+/// A small sheet of any moves.
 fn sheet(random: &mut Random) -> Text {
     let sets = 1 + random.log_uniform(3);
     let bases: Vec<Move> = (0..sets).map(|_| written(random)).collect();

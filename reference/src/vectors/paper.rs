@@ -4,7 +4,7 @@
 use crate::draw::paper;
 use crate::request::Request;
 
-/// Places of a table that are lent for a move of 8 samples, three too many.
+/// Places of a table that are lent for a move of 8 samples: more than it fills.
 const PLACES: u64 = 12;
 
 pub fn requests() -> Vec<Request> {
