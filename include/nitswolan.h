@@ -2,13 +2,14 @@
  * nitswolan: moves of a sampling carriage, planned within bounds on velocity, acceleration, jerk and snap.
  *
  * Every function takes all numbers that can be sent to it, returns, uses no heap and keeps no state. An answer's `refusal` is 0 where
- * there is none; at a refusal every other field is 0 (11 also gives its line) and every place of a table is as it was. Where several
- * refusals apply the lowest is given, but 12 comes before 11. Calls may run beside each other as long as no table or report buffer of one
- * overlaps what another is lent.
+ * there is none; at a refusal every other field is 0 (11 also gives its line, and a set of axes the place of the axis that is refused) and
+ * every place of a table is as it was. Where several refusals apply the lowest is given, but 12 comes before 11, 13 before all others, and
+ * in a set the first axis that is refused before those after it. Calls may run beside each other as long as no table or report buffer of
+ * one overlaps what another is lent.
  *
  * A table or a text of length 0 may be NULL; any other pointer is valid for its length and aligned as its type asks. A call takes at most
- * 512 bytes of stack for a move and 24 KiB for a sheet, besides its answer. From the C library only memcpy, memmove and memset are used.
- * The archive is for x86-64 Linux.
+ * 512 bytes of stack for a move, 4 KiB for a set of axes and 24 KiB for a sheet, besides its answer. From the C library only memcpy,
+ * memmove and memset are used. The archive is for x86-64 Linux.
  *
  * nitswolan_fill_force needs the floating-point state that a C program starts with: rounding to nearest, subnormals kept, no exception
  * trapped. A program that is linked with -ffast-math or changes this state gets other forces, or a signal. The others use no floats.
@@ -34,6 +35,9 @@ extern "C" {
 #define NITSWOLAN_MOST_POSITIONS (NITSWOLAN_MOST_SAMPLES + 1)
 #define NITSWOLAN_MOST_FORCES (NITSWOLAN_MOST_SAMPLES + 2)
 
+/* The most axes of a set. */
+#define NITSWOLAN_MOST_AXES 8
+
 /* The most sets and moves that a sheet lists, and the bytes of a report. */
 #define NITSWOLAN_MOST_SETS 16
 #define NITSWOLAN_MOST_MOVES 256
@@ -41,7 +45,7 @@ extern "C" {
 
 /* Refusals. */
 enum {
-  NITSWOLAN_NO_DISPLACEMENT = 1,    /* the displacement is 0 */
+  NITSWOLAN_NO_DISPLACEMENT = 1,    /* the displacement is 0; in a set of axes, every one is */
   NITSWOLAN_DISPLACEMENT_RANGE = 2, /* the displacement is beyond +-1,048,576 counts */
   NITSWOLAN_VELOCITY_RANGE = 3,     /* the bound on velocity is not in 1 to 2^50; likewise the next three */
   NITSWOLAN_ACCELERATION_RANGE = 4,
@@ -52,7 +56,8 @@ enum {
   NITSWOLAN_PAST_END = 9,         /* the sample asked for is above N */
   NITSWOLAN_MACHINE_RANGE = 10,   /* a number of the machine is not finite or out of its range */
   NITSWOLAN_SHEET_MALFORMED = 11, /* the sheet is malformed; `line` says where */
-  NITSWOLAN_SHEET_TOO_LONG = 12   /* the sheet has more than 65,535 bytes */
+  NITSWOLAN_SHEET_TOO_LONG = 12,  /* the sheet has more than 65,535 bytes */
+  NITSWOLAN_AXIS_COUNT = 13       /* the count of axes is not 1 to 8 */
 };
 
 /* A move: the displacement in counts, and the bounds on the size of velocity, acceleration, jerk and snap in units per sample, per
@@ -77,7 +82,16 @@ typedef struct {
   double c;
 } nitswolan_machine;
 
-/* A plan: N, the intervals a, b, c and e (they sum to N), the size of the snap, and the shortfall in units. */
+/* A set of axes that move together: how many, 1 to 8, and the move of each. Only the first `count` moves are read. All axes start at sample
+ * 0 and end at sample N together; N is the largest that one of them needs alone. An axis with displacement 0 stays at rest, though its
+ * bounds must be in range. */
+typedef struct {
+  uint64_t count;
+  nitswolan_move moves[NITSWOLAN_MOST_AXES];
+} nitswolan_axes;
+
+/* A plan: N, the intervals a, b, c and e (they sum to N), the size of the snap, which begins in the direction of the displacement, and the
+ * shortfall in units. */
 typedef struct {
   uint64_t refusal;
   uint64_t samples;
@@ -99,6 +113,43 @@ typedef struct {
   int64_t position;
   int64_t count;
 } nitswolan_sample_result;
+
+/* The plan of an axis in a set, as in nitswolan_plan_result, with e raised so that the intervals sum to the N of the set. `snap` is the
+ * size of the snap here too, which begins in the direction of the displacement. All six numbers are 0 for an axis at rest. */
+typedef struct {
+  uint64_t a;
+  uint64_t b;
+  uint64_t c;
+  uint64_t e;
+  uint64_t snap;
+  uint64_t shortfall;
+} nitswolan_plan;
+
+/* The plans of a set: its N, and plans[i] for moves[i]; those after the count hold zeros. `place` is the number, from 1, of the axis that
+ * is refused, whose move is moves[place - 1], or 0 if none is. */
+typedef struct {
+  uint64_t refusal;
+  uint64_t place;
+  uint64_t samples;
+  nitswolan_plan plans[NITSWOLAN_MOST_AXES];
+} nitswolan_axes_plan_result;
+
+/* The values of an axis at a sample, as in nitswolan_sample_result. All six are 0 for an axis at rest. */
+typedef struct {
+  int64_t snap;
+  int64_t jerk;
+  int64_t acceleration;
+  int64_t velocity;
+  int64_t position;
+  int64_t count;
+} nitswolan_sample;
+
+/* The values of a set at a sample: values[i] for moves[i]; those after the count hold zeros. `place` as for plans. */
+typedef struct {
+  uint64_t refusal;
+  uint64_t place;
+  nitswolan_sample values[NITSWOLAN_MOST_AXES];
+} nitswolan_axes_sample_result;
 
 /* How many rows were written, from place 0 on. Every later place keeps what it held. */
 typedef struct {
@@ -153,6 +204,14 @@ nitswolan_table_result nitswolan_fill_reference(nitswolan_move move, int64_t *ta
 /* Fills a table with the feedforward forces of a move on a machine, rows 0 to N+1: row k belongs to sample k and is made of values up to
  * two samples before it, so there is one row more than positions. Refusals 1 to 8 and 10. */
 nitswolan_table_result nitswolan_fill_force(nitswolan_move move, nitswolan_machine machine, double *table, size_t places);
+
+/* Plans a set of axes. Refusals 1 to 7 and 13: 13 before all others, then 1 if every displacement is 0, both with place 0. Otherwise the
+ * first axis that is refused gives its own lowest number and its place: 2 to 7, or 3 to 6 if it is at rest. */
+nitswolan_axes_plan_result nitswolan_plan_axes(nitswolan_axes axes);
+
+/* The values of every axis of a set at a sample from 0 to N. Refusals as for its plans, and then 9, with place 0. There are no tables for a
+ * set: it is asked sample by sample. Each call plans the set again and sums from sample 0, so its time grows with the sample asked for. */
+nitswolan_axes_sample_result nitswolan_sample_axes(nitswolan_axes axes, uint64_t sample);
 
 /* Reads the text of a route sheet. Refusals 11 and 12. The moves are not planned: each may still be refused, 1 to 7. */
 nitswolan_sheet_result nitswolan_read_sheet(const uint8_t *text, size_t length);

@@ -1,6 +1,7 @@
 //! What the requests of a run must contain: a table of conditions for each kind,
 //! checked by the run that makes the requests.
 
+pub mod axes;
 mod case;
 
 pub use case::Case;
@@ -39,7 +40,8 @@ pub fn plan() -> Table {
 }
 
 pub fn sample() -> Table {
-    joined([refusals(1..=7), refusals(9..=9), moves(), samples()])
+    let samples = joined([ends(), samples()]);
+    joined([refusals(1..=7), refusals(9..=9), moves(), samples])
 }
 
 pub fn table() -> Table {
@@ -117,22 +119,28 @@ fn edges() -> Table {
     table
 }
 
-/// The first and the last samples; positions at a half count, and a unit short of it.
-fn samples() -> Table {
+/// The first and the last samples, and later ones.
+fn ends() -> Table {
     let past_end =
         |name, met: fn(&Case) -> bool| row(name, move |case| case.refusal() == 9 && met(case));
-    let mut table = vec![
+    vec![
         accepted("k = 0", |case| case.k() == 0),
         accepted("k = N", |case| case.k() == case.n()),
         past_end("k = N+1", |case| case.k() == case.n() + 1),
         past_end("k = N+2^32", |case| case.k() == case.n() + (1 << 32)),
         past_end("k = 2^64-1", |case| case.k() == u64::MAX.into()),
-        row("7 and 9", |case| case.refusal() == 7 && case.k() > case.n()),
-    ];
+    ]
+}
+
+/// 7 before 9; positions at a half count, and a unit short of it.
+fn samples() -> Table {
+    let mut table = vec![row("7 and 9", |case| {
+        case.refusal() == 7 && case.k() > case.n()
+    })];
     for direction in [1, -1] {
         for distance in [-1, 0] {
             let name = format!("{distance} units from a half count, direction {direction}");
-            let near = move |case: &Case| case.beyond_half() == [direction, distance];
+            let near = move |case: &Case| case.beyond_half(5) == [direction, distance];
             table.push(row(name, near));
         }
     }

@@ -1,6 +1,8 @@
-//! Inputs drawn from a seed: moves, machines, tables and sheets, for the
-//! differential test, the stored vectors and the benchmark alike.
+//! Inputs drawn from a seed: moves, sets of axes, machines, tables and sheets, for
+//! the differential test, the stored vectors and the benchmark alike.
 
+pub mod axes;
+pub mod axes_edges;
 pub mod machines;
 pub mod moves;
 pub mod paper;

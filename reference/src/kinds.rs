@@ -2,7 +2,7 @@
 //! them must contain, and how many there are.
 
 use crate::conditions::{self, Case, Condition};
-use crate::draw::{machines, moves, samples, texts, Random};
+use crate::draw::{axes, axes_edges, machines, moves, samples, texts, Random};
 use crate::planner::Move;
 use crate::request::{Outcome, Request};
 use std::vec::IntoIter;
@@ -11,16 +11,19 @@ pub struct Kind {
     pub name: &'static str,
     /// The calls of the differential test.
     pub calls: u64,
+    /// The stored requests beside those that meet a condition.
+    pub stored: usize,
     /// Requests that every run sends first, and how the others are drawn.
     pub fixed: fn() -> Vec<Request>,
     pub draw: fn(&mut Random) -> Request,
     pub conditions: fn() -> Vec<Condition>,
 }
 
-pub const KINDS: [Kind; 6] = [
+pub const KINDS: [Kind; 8] = [
     Kind {
         name: "plan",
         calls: 1_000_000,
+        stored: 120,
         fixed: Vec::new,
         draw: |random| Request::Plan(moves::any(random)),
         conditions: conditions::plan,
@@ -28,6 +31,7 @@ pub const KINDS: [Kind; 6] = [
     Kind {
         name: "sample",
         calls: 100_000,
+        stored: 120,
         fixed: Vec::new,
         draw: |random| {
             let motion = moves::any(random);
@@ -38,6 +42,7 @@ pub const KINDS: [Kind; 6] = [
     Kind {
         name: "positions",
         calls: 2_000,
+        stored: 120,
         fixed: Vec::new,
         draw: |random| with_places(1, random, Request::Positions),
         conditions: conditions::table,
@@ -45,6 +50,7 @@ pub const KINDS: [Kind; 6] = [
     Kind {
         name: "reference",
         calls: 2_000,
+        stored: 120,
         fixed: Vec::new,
         draw: |random| with_places(1, random, Request::Reference),
         conditions: conditions::table,
@@ -52,6 +58,7 @@ pub const KINDS: [Kind; 6] = [
     Kind {
         name: "force",
         calls: 1_000,
+        stored: 120,
         fixed: Vec::new,
         draw: |random| {
             let motion = moves::any(random);
@@ -63,9 +70,37 @@ pub const KINDS: [Kind; 6] = [
     Kind {
         name: "sheet",
         calls: 20_000,
+        stored: 120,
         fixed: || texts::edited().into_iter().map(Request::Sheet).collect(),
         draw: |random| Request::Sheet(texts::any(random)),
         conditions: conditions::sheet,
+    },
+    Kind {
+        name: "axes",
+        calls: 20_000,
+        stored: 40,
+        fixed: || {
+            let sets = axes_edges::sets().into_iter();
+            sets.map(|(axes, _)| Request::PlanAxes(axes)).collect()
+        },
+        draw: |random| Request::PlanAxes(axes::any(random)),
+        conditions: conditions::axes::plans,
+    },
+    Kind {
+        name: "axes_sample",
+        calls: 20_000,
+        stored: 40,
+        fixed: || {
+            let asked = axes_edges::samples().into_iter();
+            asked
+                .map(|(axes, k, _)| Request::SampleAxes(axes, k))
+                .collect()
+        },
+        draw: |random| {
+            let axes = axes::any(random);
+            Request::SampleAxes(axes, samples::sample_of_axes(&axes, random))
+        },
+        conditions: conditions::axes::samples,
     },
 ];
 

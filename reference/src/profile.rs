@@ -11,11 +11,11 @@ mod state;
 pub use counts::nearest_count;
 pub use position_table::position_table;
 pub use reference_table::reference_table;
-pub use sample::{sample, Sample, SampleAnswer};
+pub use sample::{sample, sample_axes, Sample, SampleAnswer};
 pub use segments::{segments, Segment, SEGMENT_COUNT};
 pub use state::State;
 
-use crate::planner::{durations, plan, Answer, Move};
+use crate::planner::{durations, plan, Answer, Move, Plan};
 use std::iter;
 
 /// What a table entry says.
@@ -38,19 +38,21 @@ pub struct Profile {
 impl Profile {
     /// The profile of a move, or the planner's refusal, 1 to 7.
     pub fn of(motion: &Move) -> Result<Profile, u8> {
-        let (intervals, size) = match plan(motion) {
-            Answer::Refused(number) => return Err(number),
-            Answer::Planned {
-                a, b, c, e, snap, ..
-            } => ([a, b, c, e], snap),
-        };
+        match plan(motion) {
+            Answer::Refused(number) => Err(number),
+            Answer::Planned(plan) => Ok(Profile::planned(motion, &plan)),
+        }
+    }
+
+    /// The profile of a move by its plan, or by the plan it has in a set.
+    pub fn planned(motion: &Move, plan: &Plan) -> Profile {
         // D is at most S, which is at most 2^50. For a negative X every value
         // changes sign; all of them are sums of snaps.
-        let snap = size as i64 * motion.displacement.signum();
-        Ok(Profile {
-            segments: segments(durations(intervals), snap),
-            samples: intervals.iter().sum(),
-        })
+        let snap = plan.snap as i64 * motion.displacement.signum();
+        Profile {
+            segments: segments(durations(plan.intervals), snap),
+            samples: plan.samples(),
+        }
     }
 
     /// The profile of a move for a table of N and `more` rows, if they fit this

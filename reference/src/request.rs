@@ -1,8 +1,9 @@
 //! A call of an entry, and all that the paper says it gives.
 
 use crate::force::{force_table, Machine};
-use crate::planner::{plan, Answer, Move};
-use crate::profile::{position_table, reference_table, sample, SampleAnswer, TableAnswer};
+use crate::planner::{plan, plan_axes, Answer, Axes, AxesPlan, AxesRefusal, Move, Plan, MOST_AXES};
+use crate::profile::{position_table, reference_table, sample, sample_axes, Sample};
+use crate::profile::{SampleAnswer, TableAnswer};
 use crate::sheet::{self, SheetRefusal, MOST_MOVES, MOST_SETS};
 
 /// What is sent to an entry; a table is lent with so many places.
@@ -14,6 +15,8 @@ pub enum Request {
     Reference(Move, u64),
     Force(Move, Machine, u64),
     Sheet(Vec<u8>),
+    PlanAxes(Axes),
+    SampleAxes(Axes, u64),
 }
 
 /// What an entry gives.
@@ -37,7 +40,7 @@ impl Outcome {
 }
 
 impl Request {
-    /// The move that is sent; a sheet has many.
+    /// The move that is sent; a sheet and a set have many.
     pub fn motion(&self) -> Option<&Move> {
         match self {
             Request::Plan(motion)
@@ -45,7 +48,7 @@ impl Request {
             | Request::Positions(motion, _)
             | Request::Reference(motion, _)
             | Request::Force(motion, _, _) => Some(motion),
-            Request::Sheet(_) => None,
+            Request::Sheet(_) | Request::PlanAxes(_) | Request::SampleAxes(..) => None,
         }
     }
 
@@ -56,6 +59,7 @@ impl Request {
             | Request::Reference(_, places)
             | Request::Force(_, _, places) => Some(*places),
             Request::Plan(_) | Request::Sample(..) | Request::Sheet(_) => None,
+            Request::PlanAxes(_) | Request::SampleAxes(..) => None,
         }
     }
 
@@ -83,6 +87,10 @@ impl Request {
                 fields: sheet_fields(text),
                 rows: sheet::report(text).into_iter().map(u64::from).collect(),
             },
+            Request::PlanAxes(axes) => fields_alone(axes_fields(plan_axes(axes), set_fields)),
+            Request::SampleAxes(axes, k) => {
+                fields_alone(axes_fields(sample_axes(axes, *k), samples_fields))
+            }
         }
     }
 }
@@ -94,38 +102,50 @@ fn fields_alone(fields: Vec<i128>) -> Outcome {
 
 /// Refusal, N, a, b, c, e, D and shortfall.
 fn plan_fields(answer: Answer) -> Vec<i128> {
-    let values = match answer {
-        Answer::Refused(number) => [number.into(), 0, 0, 0, 0, 0, 0, 0],
-        Answer::Planned {
-            a,
-            b,
-            c,
-            e,
-            snap,
-            shortfall,
-        } => [0, a + b + c + e, a, b, c, e, snap, shortfall],
+    let (refusal, plan) = match answer {
+        Answer::Refused(number) => (number, Plan::default()),
+        Answer::Planned(plan) => (0, plan),
     };
-    values.map(i128::from).to_vec()
+    let mut fields = vec![refusal.into(), plan.samples().into()];
+    fields.extend(plan.numbers().map(i128::from));
+    fields
 }
 
 /// Refusal, snap, jerk, acceleration, velocity, position and count.
 fn sample_fields(answer: SampleAnswer) -> Vec<i128> {
-    let values = match answer {
-        SampleAnswer::Refused(number) => [number.into(), 0, 0, 0, 0, 0, 0],
-        SampleAnswer::Sampled(sample) => {
-            let [snap, jerk, acceleration, velocity, position] = sample.values();
-            [
-                0,
-                snap,
-                jerk,
-                acceleration,
-                velocity,
-                position,
-                sample.count,
-            ]
-        }
+    let (refusal, sample) = match answer {
+        SampleAnswer::Refused(number) => (number, Sample::default()),
+        SampleAnswer::Sampled(sample) => (0, sample),
     };
-    values.map(i128::from).to_vec()
+    let mut fields = vec![refusal.into()];
+    fields.extend(sample.numbers().map(i128::from));
+    fields
+}
+
+/// Refusal and place, and then what a set gives: all 0 at a refusal.
+fn axes_fields<T: Copy + Default>(
+    answer: Result<T, AxesRefusal>,
+    given: fn(T) -> Vec<i128>,
+) -> Vec<i128> {
+    let AxesRefusal { place, number } = answer.err().unwrap_or_default();
+    let head = vec![number.into(), place.into()];
+    [head, given(answer.unwrap_or_default())].concat()
+}
+
+/// N, and a, b, c, e, D and shortfall of each place.
+fn set_fields(set: AxesPlan) -> Vec<i128> {
+    let plans = set.plans.iter().flat_map(Plan::numbers);
+    [set.samples]
+        .into_iter()
+        .chain(plans)
+        .map(i128::from)
+        .collect()
+}
+
+/// Snap, jerk, acceleration, velocity, position and count of each place.
+fn samples_fields(samples: [Sample; MOST_AXES]) -> Vec<i128> {
+    let numbers = samples.iter().flat_map(Sample::numbers);
+    numbers.map(i128::from).collect()
 }
 
 /// Refusal and number of rows; and the rows.

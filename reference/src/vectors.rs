@@ -15,9 +15,7 @@ const SEED: u64 = 2003;
 /// The most bytes that all stored vectors may have together.
 const MOST_BYTES: usize = 500_000;
 
-/// The requests of each kind beside those that meet the conditions, and the most
-/// bytes that one of these takes.
-const REQUESTS: usize = 120;
+/// The most bytes that a request takes which meets no condition.
 const FEW_BYTES: usize = 2_000;
 
 /// The most bytes that a request takes, whatever it is for: no long texts but
@@ -68,7 +66,7 @@ pub fn files() -> Result<Files, String> {
 fn drawn(kind: &'static Kind, seed: u64) -> Result<Files, String> {
     let mut requests = Requests::new(kind, seed);
     let mut files = Files::default();
-    let mut left = REQUESTS;
+    let mut left = kind.stored;
     while left > 0 {
         let most = match requests.settled() {
             true => FEW_BYTES,

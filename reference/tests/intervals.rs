@@ -1,7 +1,7 @@
 //! The rules of the four intervals, read literally.
 
 use reference::least::least;
-use reference::planner::{plan, Answer, Intervals, Move};
+use reference::planner::{plan, Answer, Intervals, Move, Plan};
 
 const G: u64 = 1 << 40;
 
@@ -35,15 +35,12 @@ fn by_the_rules(x: i64, bounds: [u64; 4]) -> Answer {
     }
     let p = a * b * c * e;
     let d = w / p;
-    let [a, b, c, e, snap, shortfall] = [a, b, c, e, d, w - d * p].map(|x| x as u64);
-    Answer::Planned {
-        a,
-        b,
-        c,
-        e,
+    let [snap, shortfall] = [d, w - d * p].map(|x| x as u64);
+    Answer::Planned(Plan {
+        intervals: [a, b, c, e].map(|x| x as u64),
         snap,
         shortfall,
-    }
+    })
 }
 
 /// Every X, in both directions, with every choice of bounds, the greatest too.

@@ -1,7 +1,7 @@
 //! Document 01's own values, typed from the document.
 
 use reference::force::{force_table, Machine};
-use reference::planner::{plan, Answer, Move};
+use reference::planner::{self, plan, Answer, Move};
 use reference::profile::TableAnswer::Refused;
 use reference::profile::{position_table, reference_table, sample, SampleAnswer};
 use reference::sheet::report;
@@ -22,7 +22,7 @@ fn machine(k12: f64, c: f64) -> Machine {
 fn refusal(x: i64, bounds: [u64; 4]) -> u8 {
     match plan(&Move::new(x, bounds)) {
         Answer::Refused(number) => number,
-        Answer::Planned { .. } => 0,
+        Answer::Planned(_) => 0,
     }
 }
 
@@ -40,11 +40,11 @@ fn moves_to_check_by() {
     ];
     for (x, v, a, durations, n, d, short) in rows {
         for x in [x, -x] {
-            let answer = plan(&Move::new(x, [v, a, G, G]));
-            assert_eq!(answer.durations(), Some(durations));
-            assert_eq!(answer.samples(), Some(n));
-            assert!(matches!(answer, Answer::Planned { snap, shortfall, .. }
-                if (snap, shortfall) == (d, short)));
+            let Answer::Planned(plan) = plan(&Move::new(x, [v, a, G, G])) else {
+                panic!("{x} is refused");
+            };
+            assert_eq!(planner::durations(plan.intervals), durations);
+            assert_eq!([plan.samples(), plan.snap, plan.shortfall], [n, d, short]);
         }
     }
     assert_eq!([4093, -4093].map(|x| refusal(x, [G; 4])), [7; 2]);

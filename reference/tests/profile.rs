@@ -1,7 +1,8 @@
-//! Demand 3, line by line, then the tables and the nearest count.
+//! Demand 3, line by line, of moves and of sets' axes; then the tables and the
+//! nearest count.
 
-use reference::planner::{plan, Intervals, Move};
-use reference::profile::{nearest_count, position_table, reference_table, sample};
+use reference::planner::{durations, plan, plan_axes, Answer, Axes, Move, Plan};
+use reference::profile::{nearest_count, position_table, reference_table, sample, sample_axes};
 use reference::profile::{Sample, SampleAnswer, TableAnswer};
 
 const G: u64 = 1 << 40;
@@ -32,8 +33,8 @@ fn samples(motion: &Move) -> Vec<Sample> {
 }
 
 /// The sign of the snap at samples 0 to N.
-fn signs(motion: &Move) -> Vec<i64> {
-    let [p, q, r, s] = plan(motion).durations().expect("an accepted move");
+fn signs(plan: &Plan) -> Vec<i64> {
+    let [p, q, r, s] = durations(plan.intervals);
     let segments = [p, q, p, r, p, q, p, s, p, q, p, r, p, q, p];
     let signs = [1, 0, -1, 0, -1, 0, 1, 0, -1, 0, 1, 0, 1, 0, -1];
     let pairs = segments.into_iter().zip(signs);
@@ -42,17 +43,16 @@ fn signs(motion: &Move) -> Vec<i64> {
 }
 
 /// W and P.
-fn way_and_product(motion: &Move) -> [i128; 2] {
-    let found = Intervals::of(motion).expect("an accepted move");
-    let p = found.a * found.b * found.c * found.e;
-    [motion.w() as i128, p as i128]
+fn way_and_product(motion: &Move, plan: &Plan) -> [i128; 2] {
+    let p = plan.intervals.map(i128::from).iter().product();
+    [motion.w() as i128, p]
 }
 
 /// Samples 0 to N, with snap D in the fifteen segments.
-fn assert_profile(motion: &Move, samples: &[Sample]) {
-    let [w, p] = way_and_product(motion);
+fn assert_profile(motion: &Move, plan: &Plan, samples: &[Sample]) {
+    let [w, p] = way_and_product(motion, plan);
     let along = |at: &Sample| i128::from(at.snap * motion.displacement.signum());
-    let signs = signs(motion);
+    let signs = signs(plan);
     let snaps = signs.iter().map(|sign| i128::from(*sign) * (w / p));
     assert!(samples.iter().map(along).eq(snaps));
 }
@@ -75,10 +75,10 @@ fn assert_bounds(motion: &Move, at: &Sample) {
 }
 
 /// E is the position of the profile with W for D.
-fn assert_half_count(motion: &Move, samples: &[Sample]) {
-    let [w, p] = way_and_product(motion);
+fn assert_half_count(motion: &Move, plan: &Plan, samples: &[Sample]) {
+    let [w, p] = way_and_product(motion, plan);
     let [mut jerk, mut acceleration, mut velocity, mut e] = [0; 4];
-    for (at, sign) in samples.iter().zip(signs(motion)) {
+    for (at, sign) in samples.iter().zip(signs(plan)) {
         let position = at.position * motion.displacement.signum();
         let behind = e - p * i128::from(position);
         assert!(behind >= 0 && 2 * behind < i128::from(G) * p);
@@ -89,17 +89,41 @@ fn assert_half_count(motion: &Move, samples: &[Sample]) {
     }
 }
 
+fn assert_demand_3(motion: &Move, plan: &Plan, samples: &[Sample]) {
+    assert_profile(motion, plan, samples);
+    assert_sums_from_rest(samples);
+    samples.iter().for_each(|at| assert_bounds(motion, at));
+    assert_half_count(motion, plan, samples);
+    let end = samples[samples.len() - 1];
+    assert_eq!(end.values()[1..4], [0; 3]);
+    assert_eq!(end.count, motion.displacement);
+}
+
 #[test]
 fn demand_3() {
     for motion in moves() {
-        let samples = samples(&motion);
-        assert_profile(&motion, &samples);
-        assert_sums_from_rest(&samples);
-        samples.iter().for_each(|at| assert_bounds(&motion, at));
-        assert_half_count(&motion, &samples);
-        let end = samples[samples.len() - 1];
-        assert_eq!(end.values()[1..4], [0; 3]);
-        assert_eq!(end.count, motion.displacement);
+        let Answer::Planned(plan) = plan(&motion) else {
+            panic!("an accepted move");
+        };
+        assert_demand_3(&motion, &plan, &samples(&motion));
+    }
+}
+
+/// The rules hold for every axis of a set, by its raised e.
+#[test]
+fn demand_3_in_a_set() {
+    let list: Vec<Move> = moves().collect();
+    for eight in list.chunks_exact(8) {
+        let (count, moves) = (8, eight.try_into().expect("eight moves"));
+        let axes = Axes { count, moves };
+        let set = plan_axes(&axes).expect("an accepted set");
+        let samples: Vec<_> = (0..=set.samples)
+            .map(|k| sample_axes(&axes, k).expect("samples 0 to N"))
+            .collect();
+        for (place, motion) in moves.iter().enumerate() {
+            let of_axis: Vec<Sample> = samples.iter().map(|at| at[place]).collect();
+            assert_demand_3(motion, &set.plans[place], &of_axis);
+        }
     }
 }
 

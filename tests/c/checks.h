@@ -25,6 +25,7 @@ void check_header(checks *tally);
 /* As the library reads its arguments, and as it writes its answers. */
 void check_arguments(checks *tally);
 void check_answers(checks *tally);
+void check_axes(checks *tally);
 void check_sheets(checks *tally);
 
 /* Empty tables and texts may be NULL. */

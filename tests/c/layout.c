@@ -6,6 +6,7 @@ int main(void) {
   check_header(&tally);
   check_arguments(&tally);
   check_answers(&tally);
+  check_axes(&tally);
   check_sheets(&tally);
   check_empty(&tally);
   if (tally.failed > 0) {

@@ -15,15 +15,15 @@ static raw_machine machine_of(double m1, double m2, double k1, double k2, double
 
 /* The refusal of each entry that takes a move. */
 static void check_refusals(checks *tally, const char *what, raw_move move, uint64_t refusal) {
-  uint64_t plan[PLAN_SIZE / 8];
-  uint64_t sample[SAMPLE_SIZE / 8];
+  uint64_t plan[PLAN_RESULT_SIZE / 8];
+  uint64_t sample[SAMPLE_RESULT_SIZE / 8];
   int64_t positions[9];
   double forces[10];
   const raw_machine machine = machine_of(2, 0, 0, 0, 0, 1);
   nitswolan_plan_move(plan, move);
   nitswolan_sample_move(sample, move, 8);
-  check(tally, what, plan[PLAN_REFUSAL / 8], refusal);
-  check(tally, what, sample[SAMPLE_REFUSAL / 8], refusal);
+  check(tally, what, plan[PLAN_RESULT_REFUSAL / 8], refusal);
+  check(tally, what, sample[SAMPLE_RESULT_REFUSAL / 8], refusal);
   check(tally, what, nitswolan_fill_positions(move, positions, 9).words[TABLE_REFUSAL / 8], refusal);
   check(tally, what, nitswolan_fill_reference(move, positions, 9).words[TABLE_REFUSAL / 8], refusal);
   check(tally, what, nitswolan_fill_force(move, machine, forces, 10).words[TABLE_REFUSAL / 8], refusal);

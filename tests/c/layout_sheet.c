@@ -41,16 +41,12 @@ static void check_listed(checks *tally, const areas *both) {
 }
 
 static void check_sheet_refusal(checks *tally, areas *both, char *text) {
-  uint64_t others = 0;
   text[strlen(text) - 1] = 'x';
   read_twice(both, text);
   check_extent(tally, "bytes of a refused sheet", both, SHEET_SIZE);
   check(tally, "sheet.refusal", word(both, SHEET_REFUSAL), 11);
   check(tally, "sheet.line", word(both, SHEET_LINE), 274);
-  for (size_t k = SHEET_SET_COUNT; k < SHEET_SIZE; k += 8) {
-    others |= word(both, k);
-  }
-  check(tally, "the rest of a refused sheet", others, 0);
+  check_zeros(tally, "the rest of a refused sheet", both, SHEET_SET_COUNT, SHEET_SIZE);
 }
 
 void check_sheets(checks *tally) {

@@ -1,6 +1,6 @@
 /* The size of each struct of the interface, and the offset of each field, in bytes. Both sides are held to these numbers: the header as
  * the C compiler lays it out (layout_header.c), and the library as it reads and writes raw bytes (layout_arguments.c, layout_answers.c,
- * layout_sheet.c). */
+ * layout_axes.c, layout_sheet.c). */
 #ifndef LAYOUT_TABLE_H
 #define LAYOUT_TABLE_H
 
@@ -8,28 +8,28 @@ enum { MOVE_DISPLACEMENT = 0, MOVE_VELOCITY = 8, MOVE_ACCELERATION = 16, MOVE_JE
 
 enum { MACHINE_M1 = 0, MACHINE_M2 = 8, MACHINE_K1 = 16, MACHINE_K2 = 24, MACHINE_K12 = 32, MACHINE_C = 40, MACHINE_SIZE = 48 };
 
-enum {
-  PLAN_REFUSAL = 0,
-  PLAN_SAMPLES = 8,
-  PLAN_A = 16,
-  PLAN_B = 24,
-  PLAN_C = 32,
-  PLAN_E = 40,
-  PLAN_SNAP = 48,
-  PLAN_SHORTFALL = 56,
-  PLAN_SIZE = 64
-};
+enum { PLAN_A = 0, PLAN_B = 8, PLAN_C = 16, PLAN_E = 24, PLAN_SNAP = 32, PLAN_SHORTFALL = 40, PLAN_SIZE = 48 };
+
+/* Where the numbers of a plan begin in its answer; likewise the values of a sample, and the arrays of a set. */
+enum { PLAN_RESULT_REFUSAL = 0, PLAN_RESULT_SAMPLES = 8, PLAN_RESULT_PLAN = 16, PLAN_RESULT_SIZE = 64 };
 
 enum {
-  SAMPLE_REFUSAL = 0,
-  SAMPLE_SNAP = 8,
-  SAMPLE_JERK = 16,
-  SAMPLE_ACCELERATION = 24,
-  SAMPLE_VELOCITY = 32,
-  SAMPLE_POSITION = 40,
-  SAMPLE_COUNT = 48,
-  SAMPLE_SIZE = 56
+  SAMPLE_SNAP = 0,
+  SAMPLE_JERK = 8,
+  SAMPLE_ACCELERATION = 16,
+  SAMPLE_VELOCITY = 24,
+  SAMPLE_POSITION = 32,
+  SAMPLE_COUNT = 40,
+  SAMPLE_SIZE = 48
 };
+
+enum { SAMPLE_RESULT_REFUSAL = 0, SAMPLE_RESULT_SAMPLE = 8, SAMPLE_RESULT_SIZE = 56 };
+
+enum { AXES_COUNT = 0, AXES_MOVES = 8, AXES_SIZE = 328 };
+
+enum { AXES_PLAN_REFUSAL = 0, AXES_PLAN_PLACE = 8, AXES_PLAN_SAMPLES = 16, AXES_PLAN_PLANS = 24, AXES_PLAN_SIZE = 408 };
+
+enum { AXES_SAMPLE_REFUSAL = 0, AXES_SAMPLE_PLACE = 8, AXES_SAMPLE_VALUES = 16, AXES_SAMPLE_SIZE = 400 };
 
 enum { TABLE_REFUSAL = 0, TABLE_ROWS = 8, TABLE_SIZE = 16 };
 
@@ -47,6 +47,6 @@ enum {
   SHEET_SIZE = 4640
 };
 
-enum { MOST_SETS = 16, MOST_MOVES = 256, REPORT_SIZE = 32768 };
+enum { MOST_AXES = 8, MOST_SETS = 16, MOST_MOVES = 256, REPORT_SIZE = 32768 };
 
 #endif

@@ -11,6 +11,7 @@
 #include "layout_table.h"
 #include <stddef.h>
 #include <stdint.h>
+#include <string.h>
 
 typedef struct {
   uint64_t words[MOVE_SIZE / 8];
@@ -24,11 +25,17 @@ typedef struct {
   uint64_t words[TABLE_SIZE / 8];
 } raw_table_result;
 
+typedef struct {
+  uint64_t words[AXES_SIZE / 8];
+} raw_axes;
+
 void *nitswolan_plan_move(void *answer, raw_move move);
 void *nitswolan_sample_move(void *answer, raw_move move, uint64_t sample);
 raw_table_result nitswolan_fill_positions(raw_move move, int64_t *table, size_t places);
 raw_table_result nitswolan_fill_reference(raw_move move, int64_t *table, size_t places);
 raw_table_result nitswolan_fill_force(raw_move move, raw_machine machine, double *table, size_t places);
+void *nitswolan_plan_axes(void *answer, raw_axes axes);
+void *nitswolan_sample_axes(void *answer, raw_axes axes, uint64_t sample);
 void *nitswolan_read_sheet(void *answer, const uint8_t *text, size_t length);
 size_t nitswolan_report(const uint8_t *text, size_t length, uint8_t *report);
 
@@ -39,6 +46,11 @@ size_t nitswolan_report(const uint8_t *text, size_t length, uint8_t *report);
 static inline raw_move first_move(void) {
   raw_move move = {{8, 2 * G, G, G, G}};
   return move;
+}
+
+/* The move of the axis at place k of a set, from 0. */
+static inline void set_axis(raw_axes *axes, size_t k, raw_move move) {
+  memcpy(axes->words + (AXES_MOVES + k * MOVE_SIZE) / 8, move.words, sizeof move.words);
 }
 
 #endif

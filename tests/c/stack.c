@@ -8,11 +8,15 @@
 #include <stdlib.h>
 #include <string.h>
 
-enum { STACK = 1 << 18, UNTOUCHED = 0xA5, FOR_A_MOVE = 512, FOR_A_SHEET = 24 * 1024 };
+enum { STACK = 1 << 18, UNTOUCHED = 0xA5, FOR_A_MOVE = 512, FOR_A_SET = 4 * 1024, FOR_A_SHEET = 24 * 1024 };
+
+/* The entries are numbered: first those for a move, then those for a set of axes, then those for a sheet. */
+enum { OF_A_MOVE = 0, OF_A_SET = 5, OF_A_SHEET = 7, ENTRIES = 9 };
 
 /* What the thread is to call, and the address from which its stack is measured. */
 typedef struct {
   int entry;
+  const raw_axes *axes;
   const char *text;
   const unsigned char *frame;
   uint64_t answer[SHEET_SIZE / 8];
@@ -33,7 +37,9 @@ static void *call(void *given) {
   case 2: todo->answer[0] = nitswolan_fill_positions(move, todo->positions, 4097).words[0]; break;
   case 3: todo->answer[0] = nitswolan_fill_reference(move, todo->positions, 4097).words[0]; break;
   case 4: todo->answer[0] = nitswolan_fill_force(move, machine, todo->forces, 4098).words[0]; break;
-  case 5: return nitswolan_read_sheet(todo->answer, text, strlen(todo->text));
+  case 5: return nitswolan_plan_axes(todo->answer, *todo->axes);
+  case 6: return nitswolan_sample_axes(todo->answer, *todo->axes, 4096);
+  case 7: return nitswolan_read_sheet(todo->answer, text, strlen(todo->text));
   default: todo->answer[0] = nitswolan_report(text, strlen(todo->text), todo->report);
   }
   return NULL;
@@ -70,6 +76,33 @@ static size_t most_of(work *todo, unsigned char *stack, int first, int end) {
   return most;
 }
 
+/* Eight axes, the last as given and the others shorter. */
+static raw_axes axes_ending_in(raw_move last) {
+  raw_axes axes;
+  axes.words[AXES_COUNT / 8] = MOST_AXES;
+  for (size_t k = 0; k + 1 < MOST_AXES; k++) {
+    set_axis(&axes, k, first_move());
+  }
+  set_axis(&axes, MOST_AXES - 1, last);
+  return axes;
+}
+
+/* The most that planning and sampling a set take, over seven axes raised to the last, the last refused, and the last at rest. */
+static size_t most_of_sets(work *todo, unsigned char *stack) {
+  const raw_axes sets[] = {
+    axes_ending_in((raw_move){{4092, G, G, G, G}}),
+    axes_ending_in((raw_move){{4093, G, G, G, G}}),
+    axes_ending_in((raw_move){{0, G, G, G, G}}),
+  };
+  size_t most = 0;
+  for (size_t k = 0; k < sizeof sets / sizeof *sets; k++) {
+    todo->axes = &sets[k];
+    const size_t taken = most_of(todo, stack, OF_A_SET, OF_A_SHEET);
+    most = taken > most ? taken : most;
+  }
+  return most;
+}
+
 /* 7,431 bytes, the longest sheet: 16 sets and 256 moves, every number with as many digits as it may have. */
 static const char *longest_sheet(void) {
   static char text[7432];
@@ -95,7 +128,7 @@ static size_t most_of_sheets(work *todo, unsigned char *stack) {
   size_t most = 0;
   for (size_t k = 0; k < sizeof texts / sizeof *texts; k++) {
     todo->text = texts[k];
-    const size_t taken = most_of(todo, stack, 5, 7);
+    const size_t taken = most_of(todo, stack, OF_A_SHEET, ENTRIES);
     most = taken > most ? taken : most;
   }
   return most;
@@ -107,9 +140,11 @@ int main(void) {
   if (posix_memalign(&stack, 4096, STACK) != 0) {
     return 1;
   }
-  const size_t move = most_of(&todo, stack, 0, 5);
+  const size_t move = most_of(&todo, stack, OF_A_MOVE, OF_A_SET);
+  const size_t set = most_of_sets(&todo, stack);
   const size_t sheet = most_of_sheets(&todo, stack);
-  printf("stack: %zu bytes for a move, at most %d; %zu for a sheet, at most %d\n", move, FOR_A_MOVE, sheet, FOR_A_SHEET);
+  printf("stack: %zu bytes for a move, at most %d; %zu for a set of axes, at most %d; %zu for a sheet, at most %d\n", move, FOR_A_MOVE,
+         set, FOR_A_SET, sheet, FOR_A_SHEET);
   free(stack);
-  return move > FOR_A_MOVE || sheet > FOR_A_SHEET;
+  return move > FOR_A_MOVE || set > FOR_A_SET || sheet > FOR_A_SHEET;
 }

@@ -37,4 +37,13 @@ static inline uint64_t word(const areas *both, size_t offset) {
   return both->first[(GUARD + offset) / 8];
 }
 
+/* The bytes of an answer from `start` up to `end` must be 0. */
+static inline void check_zeros(checks *tally, const char *what, const areas *both, size_t start, size_t end) {
+  uint64_t others = 0;
+  for (size_t k = start; k < end; k += 8) {
+    others |= word(both, k);
+  }
+  check(tally, what, others, 0);
+}
+
 #endif

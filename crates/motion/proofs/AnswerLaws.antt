@@ -28,18 +28,18 @@ use Rattle.motion.specs.declared.TableAnswer.the-variants.{Filled, Refus
 
 pub number-injective : (x y : MotionRefusal) → number x ≡ number y → x ≡ y
 number-injective (Unplanned x) (Unplanned y) h = ap Unplanned (planner.number-injective x y h)
-number-injective (Unplanned x) ShortTable h = absurd (omega (arith, planner.number-most x, h))
-number-injective (Unplanned x) PastEnd h = absurd (omega (arith, planner.number-most x, h))
-number-injective ShortTable (Unplanned y) h = absurd (omega (arith, planner.number-most y, h))
+number-injective (Unplanned x) ShortTable h = absurd (planner.number-not-8-to-10 x (omega (arith, h)) (omega (arith, h)))
+number-injective (Unplanned x) PastEnd h = absurd (planner.number-not-8-to-10 x (omega (arith, h)) (omega (arith, h)))
+number-injective ShortTable (Unplanned y) h = absurd (planner.number-not-8-to-10 y (omega (arith, h)) (omega (arith, h)))
 number-injective ShortTable ShortTable h = refl
 number-injective ShortTable PastEnd h = absurd (omega (arith, h))
-number-injective PastEnd (Unplanned y) h = absurd (omega (arith, planner.number-most y, h))
+number-injective PastEnd (Unplanned y) h = absurd (planner.number-not-8-to-10 y (omega (arith, h)) (omega (arith, h)))
 number-injective PastEnd ShortTable h = absurd (omega (arith, h))
 number-injective PastEnd PastEnd h = refl
-number-injective (Unplanned x) MachineRange h = absurd (omega (arith, planner.number-most x, h))
+number-injective (Unplanned x) MachineRange h = absurd (planner.number-not-8-to-10 x (omega (arith, h)) (omega (arith, h)))
 number-injective ShortTable MachineRange h = absurd (omega (arith, h))
 number-injective PastEnd MachineRange h = absurd (omega (arith, h))
-number-injective MachineRange (Unplanned y) h = absurd (omega (arith, planner.number-most y, h))
+number-injective MachineRange (Unplanned y) h = absurd (planner.number-not-8-to-10 y (omega (arith, h)) (omega (arith, h)))
 number-injective MachineRange ShortTable h = absurd (omega (arith, h))
 number-injective MachineRange PastEnd h = absurd (omega (arith, h))
 number-injective MachineRange MachineRange h = refl
@@ -81,14 +81,14 @@ module _ {m : Move} {k : ℕ} where
   one-sample-answer x y h l = sample-injective x y (one-sample-outcome h l)
 
 pub one-table-outcome :
-    {A : Type 0} {m : Move} {rows : ℕ} {own : List Check} {row : ℕ → A} {old new new′ : List A} {o p : Result ℕ ℕ}
+    {A : Type 0} {m : Move} {rows : ℕ} {own : List (Check ℕ)} {row : ℕ → A} {old new new′ : List A} {o p : Result ℕ ℕ}
     → Fills m own rows row old o new
     → Fills m own rows row old p new′
     → (o ≡ p) × (new ≡ new′)
 one-table-outcome h l = (h .outcome-is ∙ sym (l .outcome-is), h .table-is ∙ sym (l .table-is))
 
 pub one-table-answer :
-    {A : Type 0} {m : Move} {rows : ℕ} {own : List Check} {row : ℕ → A} {old new new′ : List A} (x y : TableAnswer)
+    {A : Type 0} {m : Move} {rows : ℕ} {own : List (Check ℕ)} {row : ℕ → A} {old new new′ : List A} (x y : TableAnswer)
     → Fills m own rows row old (tableOutcome x) new
     → Fills m own rows row old (tableOutcome y) new′
     → (x ≡ y) × (new ≡ new′)

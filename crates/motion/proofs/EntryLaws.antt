@@ -8,7 +8,7 @@ use native.Mathlib.Omega.{arith}
 use lib.Ieee.{Float}
 use lib.IntN.{ℤ}
 use Rattle.planner.specs.Quantities.{distance, unitsPerCount}
-use Rattle.planner.specs.Intervals.{N}
+use Rattle.planner.specs.Intervals.{Intervals, N}
 use Rattle.planner.specs.Result.{Result, refused, Check, check, firstRefusal}
 use Rattle.planner.specs.Outcome.{distanceOf, intervalsOf, intervalsIn, samplesOf, planOf, checks, outcomeOf, Plans, outcome}
 use Rattle.planner.specs.Claims.{Accepted, IsPlanned}
@@ -33,7 +33,7 @@ not-planned q p = subst (λ (r : PlanAnswer). IsPlanned (outcome r)) q p
 
 -- a refusal that is passed on is the entry's
 pub refused-first :
-    {A : Type 0} {m : Move} {o : Result ℕ Plan} {p : Result ℕ A} (own : List Check) (q : Result ℕ A)
+    {A : Type 0} {m : Move} {o : Result ℕ Plan} {p : Result ℕ A} (own : List (Check ℕ)) (q : Result ℕ A)
     → Plans m o
     → PassedOn o p
     → p ≡ firstRefusal (checks m ++ own) q
@@ -46,7 +46,7 @@ refused-first {m = m} own q h passed =
 
 -- for an accepted move the entry's own checks are left
 module _ {m : Move} (h : Accepted m) where
-  pub own-checks : {A : Type 0} (own : List Check) (o : Result ℕ A) → firstRefusal (checks m ++ own) o ≡ firstRefusal own o
+  pub own-checks : {A : Type 0} (own : List (Check ℕ)) (o : Result ℕ A) → firstRefusal (checks m ++ own) o ≡ firstRefusal own o
   own-checks own o = checks-joined (checks m) own o ∙ all-pass (checks m) (firstRefusal own o) (accepted-passes m h)
 
   pub applies : {A : Type 0} (n : ℕ) (t : Bool) (o : Result ℕ A) → t ≡ true → firstRefusal (checks m ++ (check n t ∷ [])) o ≡ refused n
@@ -55,8 +55,8 @@ module _ {m : Move} (h : Accepted m) where
   pub passes : {A : Type 0} (n : ℕ) (t : Bool) (o : Result ℕ A) → t ≡ false → firstRefusal (checks m ++ (check n t ∷ [])) o ≡ o
   passes n t o k = own-checks (check n t ∷ []) o ∙ sym (skip k none-left .is)
 
--- the move was planned as x
-module _ {m : Move} {x : Plan} (f : PlanFacts m x) where
+-- the move was planned as x, in any intervals
+module _ {m : Move} {t : Intervals} {x : Plan} (f : PlanFacts m t x) where
   distance-most : distanceOf m ≤ 2 ^ 60
   unfolding distance
   distance-most = mul-le-mul-left unitsPerCount (f .accepted .in-range .near)
@@ -67,9 +67,11 @@ module _ {m : Move} {x : Plan} (f : PlanFacts m x) where
         ordered = f .ordered;
         samples = f .samples;
         reach = le-trans (omega (arith, f .whole)) distance-most;
-        speed = le-trans (f .bounds .velocity) (f .accepted .in-range .velocity .at-most);
+        speed = le-trans (f .bounds .velocity) (f .accepted .in-range .bounds .velocity .at-most);
       }
 
+-- in the rule's own
+module _ {m : Move} {x : Plan} (f : PlanFacts m (intervalsOf m) x) where
   -- what is made of the plan is what is made of the rule's
   by-rule : {T : Type 0} (F : Plan → T) → F x ≡ F (planOf (distanceOf m) (intervalsOf m))
   by-rule F = ap F (f .plan-rule)

@@ -13,6 +13,7 @@ use Rattle.planner.specs.Claims.{Accepted}
 use Rattle.planner.specs.declared.Move.{Move}
 use Rattle.planner.specs.declared.Plan.{Plan}
 use Rattle.planner.proofs.Acceptance.{passed-accepted}
+use Rattle.planner.proofs.EachLaws.{each-parts}
 use Rattle.planner.proofs.RefusalLaws.{Passes, passed, all-pass}
 use Rattle.planner.proofs.ResultLaws.{same-given}
 use Rattle.motion.specs.Tables.{rowsFrom, tableOf, tableChecks, tableResult, Fills}
@@ -31,13 +32,9 @@ row-at row x j zero k h = absurd (omega arith)
 row-at row x j (suc n) zero h = ap row (omega arith)
 row-at row x j (suc n) (suc k) h = row-at row x (suc j) n k (omega arith) ∙ ap row (omega arith)
 
-passes-parts : (xs ys : List Check) → Each Passes (xs ++ ys) → Each Passes xs × Each Passes ys
-passes-parts [] ys h = (tt, h)
-passes-parts (x ∷ xs) ys h = let parts = passes-parts xs ys (h .1) in ((h .0, parts .0), parts .1)
-
 module _ {A : Type 0} {rows : ℕ} {row : ℕ → A} {old : List A} where
   -- a plan and a table: refusal 8, the first of the entry's own, and the rows
-  pub short : (own : List Check) → length old < rows → WritesRows own rows row old (refused 8) old
+  pub short : (own : List (Check ℕ)) → length old < rows → WritesRows own rows row old (refused 8) old
   unfolding firstRefusal tableOf
   short own l = record { outcome-is = rw (lt-ltb (length old) rows l) refl; table-is = refl }
 
@@ -46,7 +43,7 @@ module _ {A : Type 0} {rows : ℕ} {row : ℕ → A} {old : List A} where
   own-refused n test l h = record { outcome-is = rw (le-ltb (length old) rows l, h) refl; table-is = refl }
 
   pub written :
-      (own : List Check) {n : ℕ} {new : List A}
+      (own : List (Check ℕ)) {n : ℕ} {new : List A}
       → n ≡ rows
       → rows ≤ length old
       → Each Passes own
@@ -63,7 +60,7 @@ module _ {A : Type 0} {rows : ℕ} {row : ℕ → A} {old : List A} where
       }
 
   -- a move and a table
-  module _ {m : Move} {own : List Check} where
+  module _ {m : Move} {own : List (Check ℕ)} where
     pub fills-refused : {o : Result ℕ Plan} {p : Result ℕ ℕ} → Plans m o → PassedOn o p → Fills m own rows row old p old
     unfolding tableResult tableOf
     fills-refused h passed =
@@ -136,7 +133,7 @@ module _ {A : Type 0} {rows : ℕ} {row : ℕ → A} {old : List A} where
       none-applies : Each Passes (checks m) × Each Passes (check 8 (ltb (length old) rows) ∷ own)
       unfolding tableResult
       none-applies =
-          passes-parts (checks m) (check 8 (ltb (length old) rows) ∷ own)
+          each-parts Passes (checks m) (check 8 (ltb (length old) rows) ∷ own)
           (passed (tableChecks m own rows (length old)) rows n (sym (filled .outcome-is)))
 
       pub filled-accepted : Accepted m

@@ -14,6 +14,6 @@ pub record Keeps (m : Move) (t : Intervals) (D short : ℕ) : Type 0 where
   pub short-below : short < P t
   pub product-most : P t ≤ 2 ^ 39
 
-pub keeps : {m : Move} {x : Plan} → PlanFacts m x → Keeps m (intervalsIn x) (x .snap) (x .shortfall)
+pub keeps : {m : Move} {t : Intervals} {x : Plan} → PlanFacts m t x → Keeps m (intervalsIn x) (x .snap) (x .shortfall)
 keeps f =
     record { ordered = f .ordered; bounds = f .bounds; whole = f .whole; short-below = f .shortfall-below; product-most = f .product }

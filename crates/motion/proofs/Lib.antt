@@ -22,6 +22,9 @@ pub mod ForceRows
 -- From a plan to what the entries promise.
 pub mod EntryLaws
 pub mod SamplingLaws
+pub mod AxisSampling
+pub mod AxesSampling
+pub mod AxesSampleRuns
 pub mod FillLaws
 pub mod AnswerLaws
 pub mod RefusalTheorems
@@ -33,7 +36,12 @@ pub mod HalfCountRule
 pub mod EndRule
 pub mod KeptLaws
 pub mod Demand3
+pub mod RestAxis
+pub mod Demand3Axes
+pub mod AxesTheorems
+pub mod SampleOfOne
 pub mod ExactProfile
 pub mod EitherDirection
 pub mod PlayedTable
 pub mod RuleAnswers
+pub mod AxesRuleAnswers

@@ -25,24 +25,24 @@ use Rattle.motion.proofs.EntryLaws.{own-checks}
 -- With an accepted move the entry's own checks decide.
 by-own :
     {A : Type 0} {m : Move} → Accepted m
-    → (own : List Check) (x : A) {o : Result ℕ A} {Reason : ℕ → Type 0}
+    → (own : List (Check ℕ)) (x : A) {o : Result ℕ A} {Reason : ℕ → Type 0}
     → o ≡ firstRefusal (checks m ++ own) (given x)
     → ((n : ℕ) → FirstToApply n own ↔ Reason n)
     → RefusedBy o Reason
 by-own {A} h own x is reason n =
     let left = is ∙ own-checks h own (given x) in
-    Iff·trans (λ q. sym left ∙ q, λ q. left ∙ q) (Iff·trans (first-given A own x n) (reason n))
+    Iff·trans (λ q. sym left ∙ q, λ q. left ∙ q) (Iff·trans (first-given ℕ A own x n) (reason n))
 
 -- One check, and what its test says.
-only-reason :
-    (number : ℕ) (t : Bool) (Where : Type 0) → (t ≡ true → Where) → (Where → t ≡ true)
-    → (n : ℕ) → FirstToApply n (check number t ∷ []) ↔ Only number Where n
-only-reason number t Where to from n = (
+pub only-reason :
+    {R : Type 0} (number : R) (t : Bool) (Where : Type 0) → (t ≡ true → Where) → (Where → t ≡ true)
+    → (n : R) → FirstToApply n (check number t ∷ []) ↔ Only number Where n
+only-reason {R} number t Where to from n = (
   λ h. elim h [ inl p ↦ subst (Only number Where) (p .1) (only (to (p .0))) | inr p ↦ absurd (p .1) ],
   tested,
 )
   where
-    tested : {n : ℕ} → Only number Where n → FirstToApply n (check number t ∷ [])
+    tested : {n : R} → Only number Where n → FirstToApply n (check number t ∷ [])
     tested (only w) = inl (from w, refl)
 
 below-reason : (number x y n : ℕ) → FirstToApply n (check number (ltb x y) ∷ []) ↔ Only number (x < y) n
@@ -76,7 +76,7 @@ module _ (machine : Machine Float) (rows places : ℕ) where
 
 -- A refusal writes nothing, whatever the rows are.
 refused-leaves :
-    {A : Type 0} {m : Move} {own : List Check} {rows : ℕ} {row : ℕ → A} {old new : List A} {n : ℕ}
+    {A : Type 0} {m : Move} {own : List (Check ℕ)} {rows : ℕ} {row : ℕ → A} {old new : List A} {n : ℕ}
     → Fills m own rows row old (refused n) new
     → new ≡ old
 unfolding tableOf

@@ -19,7 +19,7 @@ use Rattle.motion.proofs.RoundingLaws.{count-of}
 use Rattle.motion.proofs.Demand3.{ruleCount, demand-3}
 
 -- the outcome and the table of the rule itself, for any rule of rows
-module _ {A : Type 0} (m : Move) (own : List Check) (rows : ℕ) (row : ℕ → A) (old : List A) where
+module _ {A : Type 0} (m : Move) (own : List (Check ℕ)) (rows : ℕ) (row : ℕ → A) (old : List A) where
   abbrev pub ruleResult : Result ℕ ℕ
   ruleResult = tableResult m own rows (length old)
 

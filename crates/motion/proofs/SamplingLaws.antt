@@ -4,7 +4,7 @@ use Prim.Native.Nat.{ℕ, _≤_, _<_}
 use borrow.Author.Tests.{lt-ltb, le-ltb}
 use Rattle.planner.specs.Intervals.{N}
 use Rattle.planner.specs.Result.{Result, refused, given}
-use Rattle.planner.specs.Outcome.{intervalsIn, Plans}
+use Rattle.planner.specs.Outcome.{intervalsOf, intervalsIn, Plans}
 use Rattle.planner.specs.Inner.Facts.{PlanFacts}
 use Rattle.planner.specs.declared.Move.{Move}
 use Rattle.planner.specs.declared.Plan.{Plan}
@@ -20,7 +20,7 @@ sample-refused {m} {k} h passed =
     let t = count-of (valuesOf m k .position) in
     record { count = t .count; count-is = t .is; outcome-is = refused-first _ _ h passed }
 
-module _ {m : Move} {x : Plan} {k : ℕ} (f : PlanFacts m x) where
+module _ {m : Move} {x : Plan} {k : ℕ} (f : PlanFacts m (intervalsOf m) x) where
   pub sample-past : N (intervalsIn x) < k → Samples m k (refused 9)
   unfolding sampleWith
   sample-past l =

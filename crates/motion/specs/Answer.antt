@@ -13,7 +13,7 @@ use Rattle.motion.specs.declared.SampleAnswer.the-variants.{Sampled, Ref
 use Rattle.motion.specs.declared.TableAnswer.{TableAnswer}
 use Rattle.motion.specs.declared.TableAnswer.the-variants.{Filled, Refused as NoTable}
 
--- Document 01's table, column "No."
+-- Document 01's table, column "No."; 13 is among the planner's.
 abbrev pub number : MotionRefusal → ℕ
 number (Unplanned x) = planner.number x
 number ShortTable = 8

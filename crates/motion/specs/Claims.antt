@@ -38,13 +38,13 @@ pub record OneAnswerClaim (m : Move) : Type 0 where
   pub reference : OneFilling (FillsReference m)
   pub force : (machine : Machine Float) → OneFilling (FillsForce m machine)
 
--- This number, where that holds.
-pub data Only (number : ℕ) (Where : Type 0) : ℕ → Type 0 where
-  only : Where → Only number Where number
+-- This number, where that holds; or of a set this number and place.
+pub data Only {R : Type 0} (refusal : R) (Where : Type 0) : R → Type 0 where
+  only : Where → Only refusal Where refusal
 
 -- Refused with a number exactly where there is this reason for it, and with no other.
-abbrev pub RefusedBy : {A : Type 0} → Result ℕ A → (Reason : ℕ → Type 0) → Type 0
-RefusedBy o Reason = (n : ℕ) → (o ≡ refused n) ↔ Reason n
+abbrev pub RefusedBy : {R A : Type 0} → Result R A → (Reason : R → Type 0) → Type 0
+RefusedBy {R} o Reason = (n : R) → (o ≡ refused n) ↔ Reason n
 
 -- The reasons of a table with so many places: 8 for fewer than there are rows, and for forces else 10 for the machine.
 abbrev pub TableReason : (rows places : ℕ) → ℕ → Type 0

@@ -7,7 +7,7 @@ use lib.IntN.{ℤ, pos, natAbs, _+ℤ_, _-ℤ_, _*ℤ_}
 use lib.ListN.{length, getD}
 use lib.Signed.{_≤ℤ_, _<ℤ_}
 use Rattle.planner.specs.Quantities.{unitsPerCount, along}
-use Rattle.planner.specs.Intervals.{p, q, r, s, P}
+use Rattle.planner.specs.Intervals.{Intervals, p, q, r, s, N, P}
 use Rattle.planner.specs.Result.{Result, given}
 use Rattle.planner.specs.Outcome.{distanceOf, intervalsOf, samplesOf}
 use Rattle.planner.specs.Claims.{Accepted}
@@ -84,10 +84,13 @@ Demand3Claim =
     → Demand3 m sample new
 
 -- "the profile with W for D": a snap of size W in the stretches.
-abbrev pub exactSnap : Move → ℕ → ℤ
-exactSnap m = let t = intervalsOf m in snapIn (segments (p t) (q t) (r t) (s t)) (distanceOf m)
+abbrev pub exactSnap : Move → Intervals → ℕ → ℤ
+exactSnap m t = snapIn (segments (p t) (q t) (r t) (s t)) (distanceOf m)
 
--- What E is: summed four times from rest, in the direction of X; and at sample N it is P·G·X.
-pub record ExactProfileClaim (m : Move) : Type 0 where
-  pub summed : (k : ℕ) → exactPositionTimesP m k ≡ along (m .displacement) (sum (sum (sum (sum (exactSnap m)))) k)
-  pub at-end : exactPositionTimesP m (samplesOf m) ≡ pos (P (intervalsOf m)) *ℤ unitsOf (m .displacement)
+-- What E is in the intervals t: summed four times from rest, in the direction of X; and at sample N it is P·G·X.
+pub record IsExactProfile (m : Move) (t : Intervals) (E : ℕ → ℤ) : Type 0 where
+  pub summed : (k : ℕ) → E k ≡ along (m .displacement) (sum (sum (sum (sum (exactSnap m t)))) k)
+  pub at-end : E (N t) ≡ pos (P t) *ℤ unitsOf (m .displacement)
+
+abbrev pub ExactProfileClaim : Type 0
+ExactProfileClaim = (m : Move) → IsExactProfile m (intervalsOf m) (exactPositionTimesP m)

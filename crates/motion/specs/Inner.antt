@@ -4,6 +4,7 @@ pub mod SnapLevels
 pub mod InnerSamples
 pub mod Steps
 pub mod Planned
+pub mod PlannedAxes
 pub mod Runs
 pub mod SegmentSnaps
 pub mod Rows

@@ -4,6 +4,8 @@ pub mod Sampling
 pub mod ForceRows
 pub mod Tables
 pub mod Answer
+pub mod Axes
 pub mod Claims
 pub mod Demand3
+pub mod AxesClaims
 pub mod Inner

@@ -62,7 +62,7 @@ sampleOf v count =
 
 module _ (m : Move) (k : ℕ) where
   -- Refusals 1 to 7, then 9: "sample asked above N".
-  abbrev pub sampleChecks : List Check
+  abbrev pub sampleChecks : List (Check ℕ)
   sampleChecks = checks m ++ (check 9 (ltb (samplesOf m) k) ∷ [])
 
   unfoldable pub sampleWith : (count : ℤ) → Result ℕ Sample

@@ -26,19 +26,19 @@ tableOf (refused number) rows old = old
 tableOf (given n) rows old = rows ++ drop (length rows) old
 
 -- Refusal 10: "a machine number outside its range or not finite".
-abbrev pub machineCheck : Machine Float → Check
+abbrev pub machineCheck : Machine Float → Check ℕ
 machineCheck machine = check 10 (not (machineInRange (machineAsRead machine)))
 
 module _ (m : Move) where
   -- Refusals 1 to 7, then 8: the table has fewer places than there are rows; then the entry's own; else how many rows were written.
-  abbrev pub tableChecks : (own : List Check) (rows places : ℕ) → List Check
+  abbrev pub tableChecks : (own : List (Check ℕ)) (rows places : ℕ) → List (Check ℕ)
   tableChecks own rows places = checks m ++ (check 8 (ltb places rows) ∷ own)
 
-  unfoldable pub tableResult : (own : List Check) (rows places : ℕ) → Result ℕ ℕ
+  unfoldable pub tableResult : (own : List (Check ℕ)) (rows places : ℕ) → Result ℕ ℕ
   tableResult own rows places = firstRefusal (tableChecks own rows places) (given rows)
 
   -- The outcome and the table at exit of an entry that writes so many rows.
-  pub record Fills {A : Type 0} (own : List Check) (rows : ℕ) (row : ℕ → A) (old : List A) (o : Result ℕ ℕ) (new : List A) : Type 0 where
+  pub record Fills {A : Type 0} (own : List (Check ℕ)) (rows : ℕ) (row : ℕ → A) (old : List A) (o : Result ℕ ℕ) (new : List A) : Type 0 where
     pub outcome-is : o ≡ tableResult own rows (length old)
     pub table-is : new ≡ tableOf (tableResult own rows (length old)) (rowsFrom row 0 rows) old
 

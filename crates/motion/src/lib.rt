@@ -1,5 +1,6 @@
-// One sample of a move, and the tables that the drive and the feedback loop play. Every entry takes the move's own numbers and plans
-// inside.
+// One sample of a move or of a set of axes, and the tables that the drive and the feedback loop play. Every entry takes the moves' own
+// numbers and plans inside.
+mod axes;
 mod count;
 mod force;
 mod planned;
@@ -10,21 +11,28 @@ mod snap;
 mod state;
 mod sums;
 
+use crate::axes::sample_axis;
 use crate::force::table::write_rows;
 use crate::planned::samples_in_plan;
 use crate::positions::table::write_positions;
+use crate::refusal::no_samples;
 use crate::refusal::unfilled;
 use crate::refusal::unsampled;
+use crate::refusal::unsampled_axes;
 use crate::sums::sample_in_plan;
+use planner::AxesAnswer;
+use planner::MOST_AXES;
 use planner::Move;
 use planner::PlanAnswer;
 use planner::Refusal;
 ghost use mathlib.Core.Path.{_≡_};
 ghost use Rattle.motion.specs.Sampling.{Samples};
+ghost use Rattle.motion.specs.Axes.{SamplesAxes, axesSampleOutcome};
 ghost use Rattle.motion.specs.Tables.{FillsPositions, FillsReference, FillsForce};
 ghost use Rattle.motion.specs.Answer.{number, machineOf, sampleOutcome, tableOutcome};
 
 // The values at a sample: snap, jerk, acceleration, velocity and position in sub-count units, and the position to the nearest count.
+#[repr(C)]
 pub struct Sample {
     pub snap: i64,
     pub jerk: i64,
@@ -33,6 +41,16 @@ pub struct Sample {
     pub position: i64,
     pub count: i64,
 }
+
+// The values of an axis at rest.
+const REST: Sample = Sample {
+    snap: 0,
+    jerk: 0,
+    acceleration: 0,
+    velocity: 0,
+    position: 0,
+    count: 0,
+};
 
 // A two-mass machine, in the paper's names: masses m1 and m2, dampings k1, k2 and k12, stiffness c. Time is in samples.
 #[repr(C)]
@@ -45,7 +63,7 @@ pub struct Machine {
     pub c: f64,
 }
 
-// Refusals 1 to 7 of the planner, 8, 9 and 10.
+// Refusals 1 to 7 and 13 of the planner, 8, 9 and 10.
 pub enum MotionRefusal {
     Unplanned(Refusal),
     ShortTable,
@@ -56,6 +74,18 @@ pub enum MotionRefusal {
 pub enum SampleAnswer {
     Sampled(Sample),
     Refused(MotionRefusal),
+}
+
+// The refusal with the place of its axis, from 1; 0 where it is the set's as a whole.
+pub enum AxesSampleAnswer {
+    Sampled,
+    Refused { place: u64, refusal: MotionRefusal },
+}
+
+// An axis at rest has zeros, and so have the places after the last axis, and all at a refusal.
+pub struct AxesSample {
+    pub answer: AxesSampleAnswer,
+    pub samples: [Sample; MOST_AXES],
 }
 
 // How many rows were written.
@@ -76,6 +106,34 @@ pub fn sample_move(m: Move, k: u64) -> SampleAnswer
         return SampleAnswer::Refused(MotionRefusal::PastEnd);
     }
     SampleAnswer::Sampled(sample_in_plan(m.displacement, plan, k))
+}
+
+// The values of the first `count` moves as the axes of a set at sample k, from 0 to the common N. The loop stands here, since the
+// plans would be copied once more for a function of its own.
+pub fn sample_axes(count: u64, moves: [Move; MOST_AXES], k: u64) -> AxesSample
+    ensures { λ r. ⌜ SamplesAxes count moves k (axesSampleOutcome (r .answer)) (r .samples) ⌝ }
+{
+    let planned = planner::plan_axes(count, moves);
+    let answer = planned.answer;
+    let AxesAnswer::Planned { samples } = answer else {
+        return unsampled_axes(answer);
+    };
+    if samples < k {
+        return no_samples(0, MotionRefusal::PastEnd);
+    }
+    let mut sampled = AxesSample {
+        answer: AxesSampleAnswer::Sampled,
+        samples: [REST; MOST_AXES],
+    };
+    let end = count as usize;
+    let mut i = 0;
+    while i < end {
+        let m = moves[i];
+        let plan = planned.plans[i];
+        sampled.samples[i] = sample_axis(m, plan, k);
+        i += 1;
+    }
+    sampled
 }
 
 // Fills a table with the positions of a move at samples 0 to N, for the drive to play.

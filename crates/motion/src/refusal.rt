@@ -1,13 +1,21 @@
 // What an entry answers where the planner gives no plan: its refusal. The other arm is not reached, since the `let else` of the entries
 // leaves refusals only; some value must stand there.
+use crate::AxesSample;
+use crate::AxesSampleAnswer;
 use crate::MotionRefusal;
-use crate::Sample;
+use crate::REST;
 use crate::SampleAnswer;
 use crate::TableAnswer;
+use planner::AxesAnswer;
+use planner::MOST_AXES;
 use planner::PlanAnswer;
+ghost use mathlib.Core.Path.{_≡_};
+ghost use lib.ListN.{replicate};
+ghost use Rattle.planner.specs.Axes.{mostAxes, axesOutcome};
 ghost use Rattle.planner.specs.Claims.{IsPlanned};
 ghost use Rattle.planner.specs.Outcome.{outcome};
 ghost use Rattle.motion.specs.Answer.{sampleOutcome, tableOutcome};
+ghost use Rattle.motion.specs.Axes.{restSample, axesSampleOutcome};
 ghost use Rattle.motion.specs.Inner.Planned.{PassedOn};
 
 pub(crate) fn unsampled(answer: PlanAnswer) -> SampleAnswer
@@ -16,14 +24,7 @@ pub(crate) fn unsampled(answer: PlanAnswer) -> SampleAnswer
 {
     match answer {
         PlanAnswer::Refused(refusal) => SampleAnswer::Refused(MotionRefusal::Unplanned(refusal)),
-        PlanAnswer::Planned(plan) => SampleAnswer::Sampled(Sample {
-            snap: 0,
-            jerk: 0,
-            acceleration: 0,
-            velocity: 0,
-            position: 0,
-            count: 0,
-        }),
+        PlanAnswer::Planned(plan) => SampleAnswer::Sampled(REST),
     }
 }
 
@@ -34,5 +35,28 @@ pub(crate) fn unfilled(answer: PlanAnswer) -> TableAnswer
     match answer {
         PlanAnswer::Refused(refusal) => TableAnswer::Refused(MotionRefusal::Unplanned(refusal)),
         PlanAnswer::Planned(plan) => TableAnswer::Filled(0),
+    }
+}
+
+pub(crate) fn unsampled_axes(answer: AxesAnswer) -> AxesSample
+    requires { ⌜ (IsPlanned (axesOutcome answer) → ⊥) ⌝ }
+    ensures { λ r. ⌜ PassedOn (axesOutcome answer) (axesSampleOutcome (r .answer)) × (r .samples ≡ replicate mostAxes restSample) ⌝ }
+{
+    match answer {
+        AxesAnswer::Refused { place, refusal } => no_samples(
+            place,
+            MotionRefusal::Unplanned(refusal),
+        ),
+        AxesAnswer::Planned { samples } => no_samples(0, MotionRefusal::PastEnd),
+    }
+}
+
+// A refused set has zeros in every place.
+pub(crate) fn no_samples(place: u64, refusal: MotionRefusal) -> AxesSample
+    ensures { λ r. ⌜ (r .answer ≡ AxesSampleAnswer.Refused place refusal) × (r .samples ≡ replicate mostAxes restSample) ⌝ }
+{
+    AxesSample {
+        answer: AxesSampleAnswer::Refused { place, refusal },
+        samples: [REST; MOST_AXES],
     }
 }

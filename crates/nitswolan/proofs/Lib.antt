@@ -6,3 +6,4 @@ pub mod OneAnswer
 pub mod CallerTheorems
 pub mod RuleAnswers
 pub mod RefusalTheorems
+pub mod CallerAxes

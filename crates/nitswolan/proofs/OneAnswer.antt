@@ -10,8 +10,13 @@ use Rattle.motion.specs.Tables.{Fills, FillsPositions, FillsReference, FillsFor
 use Rattle.motion.proofs.AnswerLaws.{one-sample-outcome, one-table-outcome}
 use Rattle.route_sheet.specs.Answer.{ReadsSheet}
 use Rattle.route_sheet.proofs.AnswerLaws.{one-reading}
-use Rattle.nitswolan.specs.Fields.{Answers, planFields, sampleFields, tableFields, sheetFields}
+use Rattle.motion.proofs.AxesTheorems.{same-places}
+use Rattle.nitswolan.specs.Fields.{Answers, PlansSet, SamplesSet, axesPlanFields, axesSampleFields, planFields, sampleFields, tableFields, sheetFields}
 use Rattle.nitswolan.specs.Claims.{OneAnswerClaim}
+use Rattle.nitswolan.specs.AxesClaims.{OneAxesStructClaim}
+use Rattle.nitswolan.specs.declared.axes.Axes.{Axes}
+use Rattle.nitswolan.specs.declared.axes.AxesPlanResult.{AxesPlanResult}
+use Rattle.nitswolan.specs.declared.axes.AxesSampleResult.{AxesSampleResult}
 use Rattle.nitswolan.specs.declared.plan.PlanResult.{PlanResult}
 use Rattle.nitswolan.specs.declared.sample.SampleResult.{SampleResult}
 use Rattle.nitswolan.specs.declared.table.TableResult.{TableResult}
@@ -33,11 +38,33 @@ one-sample h l = same-struct h l (one-sample-outcome (h .promised) (l .promised)
 
 -- for all three tables
 one-table :
-    {A : Type 0} {m : Move} {rows : ℕ} {own : List Check} {row : ℕ → A} {old new new′ : List A} {x y : TableResult}
+    {A : Type 0} {m : Move} {rows : ℕ} {own : List (Check ℕ)} {row : ℕ → A} {old new new′ : List A} {x y : TableResult}
     → Answers tableFields (λ o. Fills m own rows row old o new) x
     → Answers tableFields (λ o. Fills m own rows row old o new′) y
     → (x ≡ y) × (new ≡ new′)
 one-table h l = let same = one-table-outcome (h .promised) (l .promised) in (same-struct h l (same .0), same .1)
+
+one-set-plan : {axes : Axes} {x y : AxesPlanResult} → Answers axesPlanFields (PlansSet axes) x
+    → Answers axesPlanFields (PlansSet axes) y → x ≡ y
+one-set-plan h l =
+    same-struct h l
+    (λ i. (
+      (h .promised .outcome-is ∙ sym (l .promised .outcome-is)) i,
+      (h .promised .plans-are ∙ sym (l .promised .plans-are)) i,
+    ))
+
+one-set-sample :
+    {axes : Axes} {k : ℕ} {x y : AxesSampleResult}
+    → Answers axesSampleFields (SamplesSet axes k) x → Answers axesSampleFields (SamplesSet axes k) y → x ≡ y
+one-set-sample h l =
+    same-struct h l
+    (λ i. (
+      (h .promised .outcome-is ∙ sym (l .promised .outcome-is)) i,
+      same-places (h .promised .placed) (l .promised .placed) i,
+    ))
+
+pub one-axes-struct : (axes : Axes) → OneAxesStructClaim axes
+one-axes-struct axes = record { plan = λ x y. one-set-plan; sample = λ k x y. one-set-sample }
 
 one-sheet : {text : List ℕ} {x y : SheetResult} → Answers sheetFields (ReadsSheet text) x → Answers sheetFields (ReadsSheet text) y → x ≡ y
 one-sheet h l = same-struct h l (one-reading (h .promised) (l .promised))

@@ -6,12 +6,17 @@ use lib.IntN.{pos}
 use Rattle.planner.specs.Intervals.{N}
 use Rattle.planner.specs.Result.{Result, refused, given}
 use Rattle.planner.specs.Outcome.{intervalsIn}
+use Rattle.planner.specs.Axes.{PlansAxes}
 use Rattle.planner.specs.declared.Plan.{Plan}
+use Rattle.motion.specs.Axes.{SamplesAxes}
 use Rattle.motion.specs.declared.Sample.{Sample}
 use Rattle.route_sheet.specs.Answer.{sheetOutcome}
 use Rattle.route_sheet.specs.declared.BoundSet.{BoundSet}
 use Rattle.route_sheet.specs.declared.RouteMove.{RouteMove}
 use Rattle.route_sheet.specs.declared.SheetReading.{SheetReading}
+use Rattle.nitswolan.specs.declared.axes.Axes.{Axes}
+use Rattle.nitswolan.specs.declared.axes.AxesPlanResult.{AxesPlanResult}
+use Rattle.nitswolan.specs.declared.axes.AxesSampleResult.{AxesSampleResult}
 use Rattle.nitswolan.specs.declared.plan.PlanResult.{PlanResult}
 use Rattle.nitswolan.specs.declared.sample.SampleResult.{SampleResult}
 use Rattle.nitswolan.specs.declared.table.TableResult.{TableResult}
@@ -52,6 +57,22 @@ sampleFields (given x) =
       position = x .position;
       count = x .count;
     }
+
+-- What the entries of a set promise of their answer and of the eight places beside it.
+abbrev pub PlansSet : Axes → Result (ℕ × ℕ) ℕ × List Plan → Type 0
+PlansSet x o = PlansAxes (x .count) (x .moves) (o .0) (o .1)
+
+abbrev pub SamplesSet : Axes → (k : ℕ) → Result (ℕ × ℕ) (Unit {0}) × List Sample → Type 0
+SamplesSet x k o = SamplesAxes (x .count) (x .moves) k (o .0) (o .1)
+
+-- The answer of a set, and the eight places beside it. The place of a refused axis stands in `place`.
+abbrev pub axesPlanFields : Result (ℕ × ℕ) ℕ × List Plan → AxesPlanResult
+axesPlanFields (refused (number, place), plans) = record { refusal = number; place = place; samples = 0; plans = plans }
+axesPlanFields (given samples, plans) = record { refusal = 0; place = 0; samples = samples; plans = plans }
+
+abbrev pub axesSampleFields : Result (ℕ × ℕ) (Unit {0}) × List Sample → AxesSampleResult
+axesSampleFields (refused (number, place), values) = record { refusal = number; place = place; values = values }
+axesSampleFields (given x, values) = record { refusal = 0; place = 0; values = values }
 
 abbrev pub tableFields : Result ℕ ℕ → TableResult
 tableFields (refused number) = record { refusal = number; rows = 0 }

@@ -2,4 +2,5 @@
 -- cite.
 pub mod Fields
 pub mod Claims
+pub mod AxesClaims
 pub mod Inner

@@ -1,14 +1,20 @@
 // The published C interface: every library entry, with the prefix `nitswolan_`, over structs that C can read. The refusal of an answer is 0
-// where there is none; at a refusal every other field is 0, but for the line of 11.
+// where there is none; at a refusal every other field is 0, but for the line of 11 and the place of an axis.
+mod axes;
 mod plan;
 mod sample;
 mod sheet;
 mod table;
 
+use crate::axes::axes_plan_result;
+use crate::axes::axes_sample_result;
 use crate::plan::plan_result;
 use crate::sample::sample_result;
 use crate::sheet::sheet_result;
 use crate::table::table_result;
+pub use axes::Axes;
+pub use axes::AxesPlanResult;
+pub use axes::AxesSampleResult;
 use motion::Machine;
 pub use plan::PlanResult;
 use planner::Move;
@@ -20,6 +26,7 @@ ghost use Rattle.motion.specs.Sampling.{Samples};
 ghost use Rattle.route_sheet.specs.Answer.{ReadsSheet};
 ghost use Rattle.route_sheet.specs.Report.{Reports};
 ghost use Rattle.nitswolan.specs.Fields.{Answers, planFields, sampleFields, sheetFields, tableFields};
+ghost use Rattle.nitswolan.specs.Fields.{PlansSet, SamplesSet, axesPlanFields, axesSampleFields};
 pub use sample::SampleResult;
 pub use sheet::SheetResult;
 pub use table::TableResult;
@@ -32,12 +39,30 @@ pub extern "C" fn nitswolan_plan_move(m: Move) -> PlanResult
     plan_result(planner::plan_move(m))
 }
 
+// Plans the axes of a set that arrive together, or names the refusal.
+#[no_mangle]
+pub extern "C" fn nitswolan_plan_axes(axes: Axes) -> AxesPlanResult
+    ensures { λ r. ⌜ Answers axesPlanFields (PlansSet axes) r ⌝ }
+{
+    let moves = axes.moves;
+    axes_plan_result(planner::plan_axes(axes.count, moves))
+}
+
 // The values of a move at sample k, from 0 to N.
 #[no_mangle]
 pub extern "C" fn nitswolan_sample_move(m: Move, k: u64) -> SampleResult
     ensures { λ r. ⌜ Answers sampleFields (Samples m k) r ⌝ }
 {
     sample_result(motion::sample_move(m, k))
+}
+
+// The values of the axes of a set at sample k, from 0 to the common N.
+#[no_mangle]
+pub extern "C" fn nitswolan_sample_axes(axes: Axes, k: u64) -> AxesSampleResult
+    ensures { λ r. ⌜ Answers axesSampleFields (SamplesSet axes k) r ⌝ }
+{
+    let moves = axes.moves;
+    axes_sample_result(motion::sample_axes(axes.count, moves, k))
 }
 
 // Fills a table with the positions of a move at samples 0 to N, for the drive to play.

@@ -1,32 +1,36 @@
 -- Demand 2: "a move is accepted if its figures are in range and its rule needs at most 4,096 samples, and otherwise not".
 use mathlib.Core.Logic.{_↔_}
+use mathlib.Core.List.{List, [], _∷_}
 use mathlib.Core.Path.{_≡_, refl, sym, subst, _∙_}
 use Prim.Native.Nat.{ℕ}
 use native.Mathlib.Nat.{pos-of-ne-zero}
 use native.Mathlib.Omega.{arith}
 use borrow.Author.Tests.{ne-eqb, le-ltb, ltb-false, eqb-false}
+use lib.Dec.{ltb}
 use lib.IntN.{natAbs}
-use Rattle.planner.specs.Result.{Each, Result, refused, given}
-use Rattle.planner.specs.Outcome.{mostCounts, mostSamples, samplesOf, distanceOf, intervalsOf, planOf, checks, outcomeOf}
+use Rattle.planner.specs.Result.{Each, Result, refused, given, Check, check}
+use Rattle.planner.specs.Outcome.{mostCounts, mostSamples, boundChecks, samplesOf, distanceOf, intervalsOf, planOf, checks, outcomeOf}
 use Rattle.planner.specs.Claims.{Accepted, IsPlanned, AcceptanceClaim}
 use Rattle.planner.specs.declared.Move.{Move}
 use Rattle.planner.specs.declared.Plan.{Plan}
-use Rattle.planner.proofs.RefusalLaws.{Passes, passed, all-pass, bound-in-range, bound-passes}
+use Rattle.planner.proofs.EachLaws.{each-joined, each-parts}
+use Rattle.planner.proofs.RefusalLaws.{Passes, passed, all-pass, bounds-in-range, bounds-pass}
 
 module _ (m : Move) where
+  abbrev last : List (Check ℕ)
+  last = check 7 (ltb mostSamples (samplesOf m)) ∷ []
+
   pub passed-accepted : Each Passes (checks m) → Accepted m
   passed-accepted p =
+      let rest = each-parts Passes (boundChecks (m .velocity) (m .acceleration) (m .jerk) (m .snap)) last (p .1 .1) in
       record {
         in-range =
             record {
               moves = pos-of-ne-zero (eqb-false (natAbs (m .displacement)) 0 (p .0));
               near = ltb-false mostCounts (natAbs (m .displacement)) (p .1 .0);
-              velocity = bound-in-range (m .velocity) (p .1 .1 .0);
-              acceleration = bound-in-range (m .acceleration) (p .1 .1 .1 .0);
-              jerk = bound-in-range (m .jerk) (p .1 .1 .1 .1 .0);
-              snap = bound-in-range (m .snap) (p .1 .1 .1 .1 .1 .0);
+              bounds = bounds-in-range (rest .0);
             };
-        short-enough = ltb-false mostSamples (samplesOf m) (p .1 .1 .1 .1 .1 .1 .0);
+        short-enough = ltb-false mostSamples (samplesOf m) (rest .1 .0);
       }
 
   pub accepted-passes : Accepted m → Each Passes (checks m)
@@ -35,19 +39,8 @@ module _ (m : Move) where
         ne-eqb (natAbs (m .displacement)) 0 (λ q. omega (arith, i .moves)),
         (
           le-ltb mostCounts (natAbs (m .displacement)) (i .near),
-          (
-            bound-passes (m .velocity) (i .velocity),
-            (
-              bound-passes (m .acceleration) (i .acceleration),
-              (
-                bound-passes (m .jerk) (i .jerk),
-                (
-                  bound-passes (m .snap) (i .snap),
-                  (le-ltb mostSamples (samplesOf m) (h .short-enough), tt),
-                ),
-              ),
-            ),
-          ),
+          each-joined Passes (boundChecks (m .velocity) (m .acceleration) (m .jerk) (m .snap)) last (bounds-pass (i .bounds))
+              (le-ltb mostSamples (samplesOf m) (h .short-enough), tt),
         ),
       )
 

@@ -5,12 +5,12 @@ use native.Mathlib.Omega.{arith}
 use Rattle.planner.specs.Outcome.{number, outcome}
 use Rattle.planner.specs.Claims.{OneAnswerClaim}
 use Rattle.planner.specs.declared.Refusal.{Refusal}
-use Rattle.planner.specs.declared.Refusal.the-variants.{NoDisplacement, DisplacementRange, VelocityRange, AccelerationRange, JerkRange, SnapRange, TooManySamples}
+use Rattle.planner.specs.declared.Refusal.the-variants.{NoDisplacement, DisplacementRange, VelocityRange, AccelerationRange, JerkRange, SnapRange, TooManySamples, AxisCount}
 use Rattle.planner.specs.declared.PlanAnswer.{PlanAnswer}
 use Rattle.planner.specs.declared.PlanAnswer.the-variants.{Planned, Refused}
 use Rattle.planner.proofs.ResultLaws.{refused-or-given, same-refused, same-given}
 
--- the refusal that a number from 1 to 7 names
+-- the refusal that a number names
 refusal : ℕ → Refusal
 refusal zero = NoDisplacement
 refusal (suc zero) = NoDisplacement
@@ -19,7 +19,8 @@ refusal (suc (suc (suc zero))) = VelocityRange
 refusal (suc (suc (suc (suc zero)))) = AccelerationRange
 refusal (suc (suc (suc (suc (suc zero))))) = JerkRange
 refusal (suc (suc (suc (suc (suc (suc zero)))))) = SnapRange
-refusal (suc (suc (suc (suc (suc (suc (suc n))))))) = TooManySamples
+refusal (suc (suc (suc (suc (suc (suc (suc zero))))))) = TooManySamples
+refusal (suc (suc (suc (suc (suc (suc (suc (suc n)))))))) = AxisCount
 
 named : (x : Refusal) → refusal (number x) ≡ x
 unfolding refusal
@@ -30,18 +31,21 @@ named AccelerationRange = refl
 named JerkRange = refl
 named SnapRange = refl
 named TooManySamples = refl
+named AxisCount = refl
 
 pub number-injective : (x y : Refusal) → number x ≡ number y → x ≡ y
 number-injective x y h = sym (named x) ∙ ap refusal h ∙ named y
 
-pub number-most : (x : Refusal) → number x ≤ 7
-number-most NoDisplacement = omega arith
-number-most DisplacementRange = omega arith
-number-most VelocityRange = omega arith
-number-most AccelerationRange = omega arith
-number-most JerkRange = omega arith
-number-most SnapRange = omega arith
-number-most TooManySamples = omega arith
+-- the numbers are 1 to 7 and 13
+pub number-not-8-to-10 : (x : Refusal) → 8 ≤ number x → number x ≤ 10 → ⊥
+number-not-8-to-10 NoDisplacement h l = omega arith
+number-not-8-to-10 DisplacementRange h l = omega arith
+number-not-8-to-10 VelocityRange h l = omega arith
+number-not-8-to-10 AccelerationRange h l = omega arith
+number-not-8-to-10 JerkRange h l = omega arith
+number-not-8-to-10 SnapRange h l = omega arith
+number-not-8-to-10 TooManySamples h l = omega arith
+number-not-8-to-10 AxisCount h l = omega arith
 
 pub outcome-injective : (x y : PlanAnswer) → outcome x ≡ outcome y → x ≡ y
 outcome-injective (Planned x) (Planned y) h = ap Planned (same-given h)

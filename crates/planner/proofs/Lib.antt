@@ -1,4 +1,4 @@
--- Laws that the proofs of the code cite: the search, its form, the cap, the sign and the checks.
+-- Laws that the proofs of the code cite: the search, its form, the cap, the sign, the checks, and lists of a property or with padding.
 pub mod Clash
 pub mod ResultLaws
 pub mod LeastLaws
@@ -12,6 +12,8 @@ pub mod DirectionLaws
 pub mod RefusalLaws
 pub mod OrderLaws
 pub mod RuleRefusals
+pub mod EachLaws
+pub mod PaddedLaws
 -- What the rules come to: laws of the intervals, and the theorems.
 pub mod BoundLaws
 pub mod ProductBound
@@ -19,6 +21,24 @@ pub mod CarriedLaws
 pub mod Acceptance
 pub mod Mirror
 pub mod PlannedFacts
+pub mod UndividedChecks
+pub mod UndividedAnswers
 pub mod TenLeastNumbers
 pub mod StarredMoves
 pub mod AnswerLaws
+-- Sets of axes.
+pub mod AxisLaws
+pub mod AxesLaws
+pub mod AxesRuns
+pub mod RaisedLaws
+pub mod AxesAnswers
+pub mod CountedLaws
+pub mod MovingLaws
+pub mod LongestLaws
+pub mod AxisOrder
+pub mod AxesAcceptance
+pub mod AxesRefused
+pub mod OneAxesAnswer
+pub mod CountedAlone
+pub mod CommonDuration
+pub mod SetOfOne

@@ -12,22 +12,22 @@ use Rattle.planner.proofs.ResultLaws.{refused-or-given, same-refused}
 
 pub first-given : FirstClaim
 unfolding firstRefusal
-first-given A [] x n = (λ h. refused-or-given n x (sym h), λ h. absurd h)
-first-given A (check number true ∷ xs) x n = (
+first-given R A [] x n = (λ h. refused-or-given n x (sym h), λ h. absurd h)
+first-given R A (check number true ∷ xs) x n = (
   λ h. inl (refl, same-refused h),
   λ h. elim h [ inl p ↦ ap refused (p .1) | inr p ↦ absurd (true≢false (p .0)) ],
 )
-first-given A (check number false ∷ xs) x n = (
-  λ h. inr (refl, first-given A xs x n .0 h),
-  λ h. elim h [ inl p ↦ absurd (true≢false (sym (p .0))) | inr p ↦ first-given A xs x n .1 (p .1) ],
+first-given R A (check number false ∷ xs) x n = (
+  λ h. inr (refl, first-given R A xs x n .0 h),
+  λ h. elim h [ inl p ↦ absurd (true≢false (sym (p .0))) | inr p ↦ first-given R A xs x n .1 (p .1) ],
 )
 
 -- the numbers after a check are above its own
-above : (m n : ℕ) (t : Bool) (xs : List Check) → m ≤ n → Rising (check n t ∷ xs) → Each (NotBelow m) xs
+above : (m n : ℕ) (t : Bool) (xs : List (Check ℕ)) → m ≤ n → Rising (check n t ∷ xs) → Each (NotBelow m) xs
 above m n t [] l r = tt
 above m n t (check k u ∷ xs) l r = (λ _. omega (arith, r .0), above m k u xs (omega (arith, r .0)) (r .1))
 
-rising-after : (x : Check) (xs : List Check) → Rising (x ∷ xs) → Rising xs
+rising-after : (x : Check ℕ) (xs : List (Check ℕ)) → Rising (x ∷ xs) → Rising xs
 rising-after x [] r = tt
 rising-after x (y ∷ xs) r = r .1
 

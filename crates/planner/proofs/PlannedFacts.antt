@@ -1,12 +1,12 @@
 -- From "planned" to all that holds of a plan: what other crates use in place of the rules' own text.
 use mathlib.Core.Path.{_≡_, refl, subst, sym, _∙_}
 use Prim.Native.Nat.{ℕ, zero, suc, _+_, _-_, _*_, _/_, _≤_, _<_}
-use native.Mathlib.Nat.{min-le-left, div-mul-le-self, div-add-mod', mod-lt}
+use native.Mathlib.Nat.{le-refl, le-trans, mul-le-mul-left, min-le-left, div-mul-le-self, div-add-mod', mod-lt}
 use native.Mathlib.Omega.{arith}
 use Rattle.planner.specs.Quantities.{distance}
-use Rattle.planner.specs.Intervals.{J₁, A₁, V₁, P, D}
+use Rattle.planner.specs.Intervals.{Intervals, J₁, A₁, V₁, N, P, D}
 use Rattle.planner.specs.Result.{given}
-use Rattle.planner.specs.Outcome.{distanceOf, intervalsOf, intervalsIn, samplesOf, planOf, Plans, outcome}
+use Rattle.planner.specs.Outcome.{distanceOf, intervalsOf, intervalsIn, samplesOf, mostSamples, planOf, Plans, outcome}
 use Rattle.planner.specs.Claims.{InRange, Accepted, ofMove, IntervalClaim}
 use Rattle.planner.specs.declared.Move.{Move}
 use Rattle.planner.specs.declared.Plan.{Plan}
@@ -33,28 +33,48 @@ module _ (m : Move) where
   rule-ordered = ordered (distanceOf m) (m .velocity) (m .acceleration) (m .jerk) (m .snap)
 
   rule-carried : InRange m → FromOne (ofMove m J₁) (ofMove m A₁) (ofMove m V₁)
-  rule-carried h = carried-from-one _ _ _ _ _ (h .velocity .at-least) (h .acceleration .at-least) (h .jerk .at-least) (h .snap .at-least)
+  rule-carried h =
+      let b = h .bounds in
+      carried-from-one _ _ _ _ _ (b .velocity .at-least) (b .acceleration .at-least) (b .jerk .at-least) (b .snap .at-least)
 
-  rule-bounds : InRange m → KeepsBounds m (intervalsOf m) (D (intervalsOf m) (distanceOf m))
-  unfolding intervalsOf J₁ A₁ V₁
-  rule-bounds h =
-      keeps-bounds rule-ordered (distanceOf m) m _ _ _
-      (covers-W _ _ _ _ _ (rule-carried h .one-V₁)) (covers-V _ _ _ _ _) (covers-A _ _ _ _ _) (covers-J _ _ _ _ _)
-      (min-le-left _ _) (min-le-left _ _) (min-le-left _ _)
+  -- the rule's intervals with another e
+  abbrev pub withLast : ℕ → Intervals
+  withLast e = record { a = intervalsOf m .a; b = intervalsOf m .b; c = intervalsOf m .c; e = e }
 
-  pub rule-facts : Accepted m → PlanFacts m (planOf (distanceOf m) (intervalsOf m))
+  module _ (e : ℕ) (longer : intervalsOf m .e ≤ e) where
+    pub last-ordered : Ordered (withLast e)
+    last-ordered = record {
+      one-a = rule-ordered .one-a;
+      a-b = rule-ordered .a-b;
+      ab-c = rule-ordered .ab-c;
+      abc-e = le-trans
+          (rule-ordered .abc-e) longer;
+    }
+
+    last-bounds : InRange m → KeepsBounds m (withLast e) (D (withLast e) (distanceOf m))
+    unfolding intervalsOf J₁ A₁ V₁
+    last-bounds h =
+        keeps-bounds last-ordered (distanceOf m) m _ _ _
+        (le-trans (covers-W _ _ _ _ _ (rule-carried h .one-V₁)) (mul-le-mul-left _ longer))
+        (covers-V _ _ _ _ _) (covers-A _ _ _ _ _) (covers-J _ _ _ _ _)
+        (min-le-left _ _) (min-le-left _ _) (min-le-left _ _)
+
+    pub last-facts : Accepted m → N (withLast e) ≤ mostSamples → PlanFacts m (withLast e) (planOf (distanceOf m) (withLast e))
+    last-facts h l =
+        record {
+          accepted = h;
+          plan-rule = refl;
+          ordered = last-ordered;
+          samples = l;
+          product = product-bound last-ordered l;
+          shortfall-below = below _ _ (product-positive last-ordered);
+          whole = whole _ _;
+          bounds = last-bounds (h .in-range);
+        }
+
+  pub rule-facts : Accepted m → PlanFacts m (intervalsOf m) (planOf (distanceOf m) (intervalsOf m))
   unfolding samplesOf
-  rule-facts h =
-      record {
-        accepted = h;
-        plan-rule = refl;
-        ordered = rule-ordered;
-        samples = h .short-enough;
-        product = product-bound rule-ordered (h .short-enough);
-        shortfall-below = below _ _ (product-positive rule-ordered);
-        whole = whole _ _;
-        bounds = rule-bounds (h .in-range);
-      }
+  rule-facts h = last-facts (intervalsOf m .e) (le-refl _) h (h .short-enough)
 
 pub interval-claim : (m : Move) → IntervalClaim m
 interval-claim m =
@@ -67,19 +87,19 @@ interval-claim m =
     }
 
 module _ {m : Move} where
-  pub planned-facts : {x : Plan} → Plans m (given x) → PlanFacts m x
+  pub planned-facts : {x : Plan} → Plans m (given x) → PlanFacts m (intervalsOf m) x
   planned-facts h =
       let k = acceptance m _ h .0 tt in
-      subst (PlanFacts m) (sym (same-given (h .outcome-is ∙ accepted-outcome m k))) (rule-facts m k)
+      subst (PlanFacts m (intervalsOf m)) (sym (same-given (h .outcome-is ∙ accepted-outcome m k))) (rule-facts m k)
 
   -- the same for an answer that was taken apart
-  pub answer-facts : {r : PlanAnswer} {x : Plan} → Plans m (outcome r) → r ≡ Planned x → PlanFacts m x
+  pub answer-facts : {r : PlanAnswer} {x : Plan} → Plans m (outcome r) → r ≡ Planned x → PlanFacts m (intervalsOf m) x
   answer-facts h q = planned-facts (subst (λ (r : PlanAnswer). Plans m (outcome r)) q h)
 
   -- A plan's snap is not 0: the distance is at least 2^40, and P at most 2^39.
-  pub snap-from-one : {x : Plan} → PlanFacts m x → 0 < x .snap
+  pub snap-from-one : {t : Intervals} {x : Plan} → PlanFacts m t x → 0 < x .snap
   unfolding distance
-  snap-from-one {x} f = from-one (x .snap) (P (intervalsIn x)) (f .whole)
+  snap-from-one {x = x} f = from-one (x .snap) (P (intervalsIn x)) (f .whole)
     where
       from-one : (D p : ℕ) → D * p + x .shortfall ≡ distanceOf m → 0 < D
       from-one zero p q = absurd (omega (arith, q, f .shortfall-below, f .product, f .accepted .in-range .moves))

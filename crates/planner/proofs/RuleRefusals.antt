@@ -1,26 +1,30 @@
 -- The rule refuses with no number above 7, and with none below 1.
 use mathlib.Core.Bool.{true, false}
 use mathlib.Core.List.{List, [], _∷_}
-use mathlib.Core.Path.{_≡_}
+use mathlib.Core.Path.{_≡_, subst}
 use Prim.Native.Nat.{ℕ, _≤_}
 use native.Mathlib.Omega.{arith}
 use Rattle.planner.specs.Result.{Each, refused, given, Check, check, firstRefusal}
 use Rattle.planner.specs.Outcome.{checks, distanceOf, intervalsOf, planOf, outcomeOf}
 use Rattle.planner.specs.declared.Move.{Move}
 use Rattle.planner.proofs.Clash.{clash}
+use Rattle.planner.proofs.ResultLaws.{same-refused}
 
--- a check has a number from `least` to `most`
-abbrev pub NumberWithin : (least most : ℕ) → Check → Type 0
-NumberWithin least most (check number applies) = (least ≤ number) × (number ≤ most)
+-- a property of the refusal of a check, and so of the one that is given
+abbrev pub Has : {R : Type 0} → (R → Type 0) → Check R → Type 0
+Has P (check refusal applies) = P refusal
 
-pub refusal-within :
-    {A : Type 0} (least most : ℕ) (xs : List Check) (x : A) → Each (NumberWithin least most) xs →
-    (n : ℕ) → firstRefusal xs (given x) ≡ refused n → (least ≤ n) × (n ≤ most)
+pub refusal-has :
+    {R A : Type 0} (P : R → Type 0) (xs : List (Check R)) (x : A) → Each (Has P) xs → (n : R) → firstRefusal xs (given x) ≡ refused n → P n
 unfolding firstRefusal
-refusal-within least most [] x h n e = absurd (clash cc)
-refusal-within least most (check number true ∷ xs) x h n e = let same : number ≡ n = cc in (omega (arith, h .0), omega (arith, h .0))
-refusal-within least most (check number false ∷ xs) x h n e = refusal-within least most xs x (h .1) n e
+refusal-has P [] x h n e = absurd (clash cc)
+refusal-has P (check refusal true ∷ xs) x h n e = subst P (same-refused e) (h .0)
+refusal-has P (check refusal false ∷ xs) x h n e = refusal-has P xs x (h .1) n e
 
-pub refused-most : (m : Move) (n : ℕ) → outcomeOf m ≡ refused n → (1 ≤ n) × (n ≤ 7)
+-- a number from `least` to `most`
+abbrev pub Between : (least most n : ℕ) → Type 0
+Between least most n = (least ≤ n) × (n ≤ most)
+
+pub refused-most : (m : Move) (n : ℕ) → outcomeOf m ≡ refused n → Between 1 7 n
 unfolding outcomeOf
-refused-most m = refusal-within 1 7 (checks m) (planOf (distanceOf m) (intervalsOf m)) (omega arith)
+refused-most m = refusal-has (Between 1 7) (checks m) (planOf (distanceOf m) (intervalsOf m)) (omega arith)

@@ -48,10 +48,17 @@ starred-accepted =
     rows-accepted starred
     (each-row (λ (x : Move × Columns). shown (outcomeOf (x .0))) (λ (x : Move × Columns). x .1) starred starred-moves)
 
--- the first row's move
+-- the moves of the first two rows, of 8 and 12 samples
 abbrev pub firstStarred : Move
 firstStarred = record { displacement = pos 8; velocity = 2 * G; acceleration = G; jerk = G; snap = G }
 
 pub first-accepted : Accepted firstStarred
 unfolding starred
 first-accepted = starred-accepted .0 tt
+
+abbrev pub secondStarred : Move
+secondStarred = record { displacement = pos 8; velocity = G; acceleration = G; jerk = G; snap = G }
+
+pub second-accepted : Accepted secondStarred
+unfolding starred
+second-accepted = starred-accepted .1 .0 tt

@@ -16,24 +16,27 @@ pub record BoundInRange (x : ℕ) : Type 0 where
   pub at-least : 1 ≤ x
   pub at-most : x ≤ mostBound
 
+pub record BoundsInRange (V₀ A₀ J₀ S₀ : ℕ) : Type 0 where
+  pub velocity : BoundInRange V₀
+  pub acceleration : BoundInRange A₀
+  pub jerk : BoundInRange J₀
+  pub snap : BoundInRange S₀
+
 -- The figures of a move are in range: none of refusals 1 to 6 applies.
 pub record InRange (m : Move) : Type 0 where
   pub moves : 1 ≤ natAbs (m .displacement)
   pub near : natAbs (m .displacement) ≤ mostCounts
-  pub velocity : BoundInRange (m .velocity)
-  pub acceleration : BoundInRange (m .acceleration)
-  pub jerk : BoundInRange (m .jerk)
-  pub snap : BoundInRange (m .snap)
+  pub bounds : BoundsInRange (m .velocity) (m .acceleration) (m .jerk) (m .snap)
 
 -- "A move is accepted if its figures are in range and its rule needs at most 4,096 samples, and otherwise not."
 pub record Accepted (m : Move) : Type 0 where
   pub in-range : InRange m
   pub short-enough : samplesOf m ≤ mostSamples
 
--- The outcome is a plan.
-abbrev pub IsPlanned : Result ℕ Plan → Type 0
-IsPlanned (refused number) = ⊥
-IsPlanned (given plan) = Unit {0}
+-- The outcome is a plan, or of a set its duration: no refusal.
+abbrev pub IsPlanned : {R A : Type 0} → Result R A → Type 0
+IsPlanned (refused x) = ⊥
+IsPlanned (given x) = Unit {0}
 
 abbrev pub AcceptanceClaim : Type 0
 AcceptanceClaim = (m : Move) (o : Result ℕ Plan) → Plans m o → IsPlanned o ↔ Accepted m

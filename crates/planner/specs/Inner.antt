@@ -3,3 +3,5 @@
 pub mod Facts
 pub mod Search
 pub mod Capped
+pub mod Undivided
+pub mod AxisAnswers

@@ -1,11 +1,13 @@
--- The rules of document 01 in its order; then what the theorems say of them; last what only proofs and the contracts of private functions
--- cite.
+-- The rules of document 01 in its order, and of document 02, request 1; then what the theorems say of them; last what only proofs and the
+-- contracts of private functions cite.
 pub mod Quantities
 pub mod Least
 pub mod Intervals
 pub mod Result
 pub mod Outcome
 pub mod Order
+pub mod Axes
 pub mod Claims
+pub mod AxesClaims
 pub mod Starred
 pub mod Inner

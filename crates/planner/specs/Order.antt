@@ -9,35 +9,35 @@ use Rattle.planner.specs.Result.{refused, given, Check, check, firstRefu
 use Rattle.planner.specs.Outcome.{checks}
 use Rattle.planner.specs.declared.Move.{Move}
 
-abbrev pub numberOf : Check → ℕ
+abbrev pub numberOf : Check ℕ → ℕ
 numberOf (check number applies) = number
 
--- The check of number n applies, and none before it does.
-abbrev pub FirstToApply : ℕ → List Check → Type 0
+-- The check of refusal n applies, and none before it does.
+abbrev pub FirstToApply : {R : Type 0} → R → List (Check R) → Type 0
 FirstToApply n [] = ⊥
-FirstToApply n (check number applies ∷ xs) = ((applies ≡ true) × (number ≡ n)) ⊎ ((applies ≡ false) × FirstToApply n xs)
+FirstToApply n (check refusal applies ∷ xs) = ((applies ≡ true) × (refusal ≡ n)) ⊎ ((applies ≡ false) × FirstToApply n xs)
 
--- Of every list of checks: a number is given if and only if its check applies and none before it does.
+-- Of every list of checks: a refusal is given if and only if its check applies and none before it does.
 abbrev pub FirstClaim : Type 1
-FirstClaim = (A : Type 0) (xs : List Check) (x : A) (n : ℕ) → (firstRefusal xs (given x) ≡ refused n) ↔ FirstToApply n xs
+FirstClaim = (R A : Type 0) (xs : List (Check R)) (x : A) (n : R) → (firstRefusal xs (given x) ≡ refused n) ↔ FirstToApply n xs
 
 -- Each number is above the one before it.
-abbrev pub Rising : List Check → Type 0
+abbrev pub Rising : List (Check ℕ) → Type 0
 Rising [] = Unit {0}
 Rising (x ∷ []) = Unit {0}
 Rising (x ∷ y ∷ xs) = (numberOf x < numberOf y) × Rising (y ∷ xs)
 
 -- If the check applies, its number is n or above.
-abbrev pub NotBelow : ℕ → Check → Type 0
+abbrev pub NotBelow : ℕ → Check ℕ → Type 0
 NotBelow n (check number applies) = applies ≡ true → n ≤ number
 
 -- Of a list whose numbers rise, as those of refusals 1 to 10 do: no check that applies has a number below the one that is given. That this
 -- one applies is `FirstClaim`.
 abbrev pub LowestClaim : Type 1
-LowestClaim = (A : Type 0) (xs : List Check) (x : A) (n : ℕ) → Rising xs → firstRefusal xs (given x) ≡ refused n → Each (NotBelow n) xs
+LowestClaim = (A : Type 0) (xs : List (Check ℕ)) (x : A) (n : ℕ) → Rising xs → firstRefusal xs (given x) ≡ refused n → Each (NotBelow n) xs
 
 -- The checks stand in the order of these numbers.
-abbrev pub InOrder : List Check → List ℕ → Type 0
+abbrev pub InOrder : List (Check ℕ) → List ℕ → Type 0
 InOrder xs numbers = (map numberOf xs ≡ numbers) × Rising xs
 
 abbrev pub PlanOrderClaim : Type 0

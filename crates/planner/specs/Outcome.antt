@@ -1,6 +1,6 @@
 -- Document 01, "Why a move or sheet is turned away", refusals 1 to 7: the outcome of a move, and the planner's answer as the paper has it.
 use mathlib.Core.Bool.{Bool, _||_}
-use mathlib.Core.List.{List, [], _∷_}
+use mathlib.Core.List.{List, [], _∷_, _++_}
 use mathlib.Core.Path.{_≡_}
 use Prim.Native.Nat.{ℕ, _^_}
 use lib.Dec.{eqb, ltb}
@@ -11,7 +11,7 @@ use Rattle.planner.specs.Result.{Result, refused, given, Check, check, f
 use Rattle.planner.specs.declared.Move.{Move}
 use Rattle.planner.specs.declared.Plan.{Plan}
 use Rattle.planner.specs.declared.Refusal.{Refusal}
-use Rattle.planner.specs.declared.Refusal.the-variants.{NoDisplacement, DisplacementRange, VelocityRange, AccelerationRange, JerkRange, SnapRange, TooManySamples}
+use Rattle.planner.specs.declared.Refusal.the-variants.{NoDisplacement, DisplacementRange, VelocityRange, AccelerationRange, JerkRange, SnapRange, TooManySamples, AxisCount}
 use Rattle.planner.specs.declared.PlanAnswer.{PlanAnswer}
 use Rattle.planner.specs.declared.PlanAnswer.the-variants.{Planned, Refused}
 
@@ -28,6 +28,11 @@ mostBound = 2 ^ 50
 -- "not in 1 to 2^50"
 abbrev pub outOfRange : ℕ → Bool
 outOfRange x = eqb x 0 || ltb mostBound x
+
+-- Refusals 3 to 6.
+abbrev pub boundChecks : (V₀ A₀ J₀ S₀ : ℕ) → List (Check ℕ)
+boundChecks V₀ A₀ J₀ S₀ =
+    check 3 (outOfRange V₀) ∷ check 4 (outOfRange A₀) ∷ check 5 (outOfRange J₀) ∷ check 6 (outOfRange S₀) ∷ []
 
 -- The plan of four intervals for the distance W; and the intervals of a plan.
 abbrev pub planOf : (W : ℕ) (t : Intervals) → Plan
@@ -48,16 +53,12 @@ module _ (m : Move) where
   samplesOf = N intervalsOf
 
   -- Refusals 1 to 7.
-  abbrev pub checks : List Check
+  abbrev pub checks : List (Check ℕ)
   checks =
       check 1 (eqb (natAbs (m .displacement)) 0)
       ∷ check 2 (ltb mostCounts (natAbs (m .displacement)))
-      ∷ check 3 (outOfRange (m .velocity))
-      ∷ check 4 (outOfRange (m .acceleration))
-      ∷ check 5 (outOfRange (m .jerk))
-      ∷ check 6 (outOfRange (m .snap))
-      ∷ check 7 (ltb mostSamples samplesOf)
-      ∷ []
+      ∷ boundChecks (m .velocity) (m .acceleration) (m .jerk) (m .snap)
+      ++ (check 7 (ltb mostSamples samplesOf) ∷ [])
 
   unfoldable pub outcomeOf : Result ℕ Plan
   outcomeOf = firstRefusal checks (given (planOf distanceOf intervalsOf))
@@ -66,7 +67,7 @@ module _ (m : Move) where
   pub record Plans (o : Result ℕ Plan) : Type 0 where
     pub outcome-is : o ≡ outcomeOf
 
--- Document 01's table, column "No."
+-- Document 01's table, column "No.", and 13 of document 02, request 1.
 abbrev pub number : Refusal → ℕ
 number NoDisplacement = 1
 number DisplacementRange = 2
@@ -75,6 +76,7 @@ number AccelerationRange = 4
 number JerkRange = 5
 number SnapRange = 6
 number TooManySamples = 7
+number AxisCount = 13
 
 -- Every field of every case is read, so different answers have different outcomes (the theorem `outcome-injective`).
 abbrev pub outcome : PlanAnswer → Result ℕ Plan

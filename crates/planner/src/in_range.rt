@@ -1,51 +1,59 @@
-// The plan of a move whose figures are in range.
+// The intervals of a move, or its refusal.
 use crate::Plan;
 use crate::PlanAnswer;
 use crate::Refusal;
+use crate::UNITS_PER_COUNT;
+use crate::bounds::BoundsAnswer;
+use crate::bounds::check_bounds;
+use crate::division::samples_in;
 use crate::intervals::find_intervals;
+use crate::size::magnitude;
 ghost use mathlib.Core.Path.{_≡_};
-ghost use Prim.Native.Nat.{_-_, _*_, _/_, _≤_};
 ghost use Rattle.planner.specs.Outcome.{outcome};
-ghost use Rattle.planner.specs.Inner.Capped.{Figures, planWithin};
+ghost use Rattle.planner.specs.Inner.Capped.{Figures};
+ghost use Rattle.planner.specs.Inner.Undivided.{moveOf, undividedResult, undividedWithin};
+
+// The farthest displacement, either way.
+const MOST_COUNTS: u64 = 1_048_576;
 
 // The most samples that a move may take.
 const MOST_SAMPLES: u64 = 4096;
 
-struct Division {
-    pub snap: u64,
-    pub shortfall: u64,
-}
-
-// D, the size of the snap, is W over P rounded down, so that neither a bound nor the end is passed. The
-// shortfall is what that leaves of W.
-fn divide(w: u64, p: u64) -> Division
-    requires { ⌜ 1 ≤ p ⌝ }
-    ensures { λ r. ⌜ (r .snap ≡ w / p) × (r .shortfall ≡ w - w / p * p) ⌝ }
-{
-    let snap = w / p;
-    let shortfall = w % p;
-    Division { snap, shortfall }
-}
-
-pub(crate) fn plan_in_range(w: u64, v: u64, acc: u64, j: u64, s: u64) -> PlanAnswer
+// The intervals of a move whose figures are in range, with all of W still short; or refusal 7.
+fn undivided_in_range(w: u64, v: u64, acc: u64, j: u64, s: u64) -> PlanAnswer
     requires { ⌜ Figures w v acc j s ⌝ }
-    ensures { λ r. ⌜ outcome r ≡ planWithin w v acc j s ⌝ }
+    ensures { λ r. ⌜ outcome r ≡ undividedWithin w v acc j s ⌝ }
 {
-    let i = find_intervals(w, v, acc, j, s);
-    let a = i.a;
-    let b = i.b;
-    let c = i.c;
-    let e = i.e;
-    if MOST_SAMPLES < a + b + c + e {
+    let t = find_intervals(w, v, acc, j, s);
+    let x = Plan {
+        a: t.a,
+        b: t.b,
+        c: t.c,
+        e: t.e,
+        snap: 0,
+        shortfall: w,
+    };
+    if MOST_SAMPLES < samples_in(x) {
         return PlanAnswer::Refused(Refusal::TooManySamples);
     }
-    let d = divide(w, a * b * c * e);
-    PlanAnswer::Planned(Plan {
-        a,
-        b,
-        c,
-        e,
-        snap: d.snap,
-        shortfall: d.shortfall,
-    })
+    PlanAnswer::Planned(x)
+}
+
+// The same of any move, or the lowest refusal that applies. The move's numbers come one by one: as a struct they would be
+// copied at each call.
+pub(crate) fn undivided_plan(x: i64, v: u64, acc: u64, j: u64, s: u64) -> PlanAnswer
+    ensures { λ r. ⌜ outcome r ≡ undividedResult (moveOf x v acc j s) ⌝ }
+{
+    let size = magnitude(x);
+    if size == 0 {
+        return PlanAnswer::Refused(Refusal::NoDisplacement);
+    }
+    if MOST_COUNTS < size {
+        return PlanAnswer::Refused(Refusal::DisplacementRange);
+    }
+    let bounds = check_bounds(v, acc, j, s);
+    match bounds {
+        BoundsAnswer::Refused(refusal) => PlanAnswer::Refused(refusal),
+        BoundsAnswer::InRange => undivided_in_range(UNITS_PER_COUNT * size, v, acc, j, s),
+    }
 }

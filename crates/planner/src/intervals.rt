@@ -17,7 +17,7 @@ pub(crate) struct Intervals {
     pub e: u64,
 }
 
-fn larger(x: u64, y: u64) -> u64
+pub(crate) fn larger(x: u64, y: u64) -> u64
     ensures { λ r. ⌜ r ≡ max x y ⌝ }
 {
     if x < y { y } else { x }

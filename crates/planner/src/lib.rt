@@ -1,20 +1,28 @@
-// Plans one move of the carriage: its four intervals, the snap and the shortfall, or the refusal.
-mod checks;
+// Plans one move of the carriage, or a set of axes: the four intervals, the snap and the shortfall, or the refusal.
+mod axes;
+mod bounds;
+mod division;
 mod in_range;
 mod intervals;
 mod search;
+mod size;
 
-use crate::checks::out_of_range;
-use crate::in_range::plan_in_range;
-pub use checks::magnitude;
+use crate::axes::each::find_each;
+use crate::axes::raise::raise_each;
+use crate::axes::rest::all_rest;
+use crate::division::divided;
+use crate::in_range::undivided_plan;
+pub use size::magnitude;
 ghost use mathlib.Core.Path.{_≡_};
+ghost use lib.ListN.{replicate};
 ghost use Rattle.planner.specs.Outcome.{Plans, number, outcome};
+ghost use Rattle.planner.specs.Axes.{PlansAxes, axesOutcome, mostAxes, restPlan};
 
 // Sub-count units in a count: the paper's G, in grains.
 pub const UNITS_PER_COUNT: u64 = 1_099_511_627_776;
 
-// The farthest displacement, either way.
-const MOST_COUNTS: u64 = 1_048_576;
+// The most axes of a set.
+pub const MOST_AXES: usize = 8;
 
 // A move as it is sent: the displacement X in counts, and the bounds V, A, J and S on the size of
 // velocity, acceleration, jerk and snap, in sub-count units and samples.
@@ -28,6 +36,7 @@ pub struct Move {
 }
 
 // The intervals a, b, c and e in samples, the size D of the snap, and the shortfall W−D·P.
+#[repr(C)]
 pub struct Plan {
     pub a: u64,
     pub b: u64,
@@ -37,7 +46,17 @@ pub struct Plan {
     pub shortfall: u64,
 }
 
-// Refusals 1 to 7, in the order of their numbers.
+// The plan of an axis at rest.
+const REST: Plan = Plan {
+    a: 0,
+    b: 0,
+    c: 0,
+    e: 0,
+    snap: 0,
+    shortfall: 0,
+};
+
+// Refusals 1 to 7 and 13, in the order of their numbers.
 pub enum Refusal {
     NoDisplacement,
     DisplacementRange,
@@ -46,6 +65,7 @@ pub enum Refusal {
     JerkRange,
     SnapRange,
     TooManySamples,
+    AxisCount,
 }
 
 pub enum PlanAnswer {
@@ -53,36 +73,58 @@ pub enum PlanAnswer {
     Refused(Refusal),
 }
 
+// The common duration, or the refusal with the place of its axis, from 1; 0 where it is the set's as a whole.
+pub enum AxesAnswer {
+    Planned { samples: u64 },
+    Refused { place: u64, refusal: Refusal },
+}
+
+// An axis at rest has zeros, and so have the places after the last axis, and all at a refusal.
+pub struct AxesPlan {
+    pub answer: AxesAnswer,
+    pub plans: [Plan; MOST_AXES],
+}
+
 // Plans a move, or names the lowest refusal that applies.
 pub fn plan_move(m: Move) -> PlanAnswer
     ensures { λ r. ⌜ Plans m (outcome r) ⌝ }
 {
-    let size = magnitude(m.displacement);
-    if size == 0 {
-        return PlanAnswer::Refused(Refusal::NoDisplacement);
+    let answer = undivided_plan(m.displacement, m.velocity, m.acceleration, m.jerk, m.snap);
+    match answer {
+        PlanAnswer::Planned(x) => PlanAnswer::Planned(divided(x)),
+        PlanAnswer::Refused(refusal) => PlanAnswer::Refused(refusal),
     }
-    if MOST_COUNTS < size {
-        return PlanAnswer::Refused(Refusal::DisplacementRange);
+}
+
+// Plans the first `count` moves as the axes of a set that arrive together, or names the refusal.
+pub fn plan_axes(count: u64, moves: [Move; MOST_AXES]) -> AxesPlan
+    ensures { λ r. ⌜ PlansAxes count moves (axesOutcome (r .answer)) (r .plans) ⌝ }
+{
+    if count == 0 {
+        return no_plans(0, Refusal::AxisCount);
     }
-    if out_of_range(m.velocity) {
-        return PlanAnswer::Refused(Refusal::VelocityRange);
+    if (MOST_AXES as u64) < count {
+        return no_plans(0, Refusal::AxisCount);
     }
-    if out_of_range(m.acceleration) {
-        return PlanAnswer::Refused(Refusal::AccelerationRange);
+    let end = count as usize;
+    if all_rest(end, moves) {
+        return no_plans(0, Refusal::NoDisplacement);
     }
-    if out_of_range(m.jerk) {
-        return PlanAnswer::Refused(Refusal::JerkRange);
+    let found = find_each(end, moves);
+    let answer = found.answer;
+    match answer {
+        AxesAnswer::Planned { samples } => raise_each(found, samples),
+        AxesAnswer::Refused { place, refusal } => no_plans(place, refusal),
     }
-    if out_of_range(m.snap) {
-        return PlanAnswer::Refused(Refusal::SnapRange);
+}
+
+fn no_plans(place: u64, refusal: Refusal) -> AxesPlan
+    ensures { λ r. ⌜ (r .answer ≡ AxesAnswer.Refused place refusal) × (r .plans ≡ replicate mostAxes restPlan) ⌝ }
+{
+    AxesPlan {
+        answer: AxesAnswer::Refused { place, refusal },
+        plans: [REST; MOST_AXES],
     }
-    plan_in_range(
-        UNITS_PER_COUNT * size,
-        m.velocity,
-        m.acceleration,
-        m.jerk,
-        m.snap,
-    )
 }
 
 // The paper's number of a refusal.
@@ -97,5 +139,6 @@ pub fn refusal_number(refusal: Refusal) -> u64
         Refusal::JerkRange => 5,
         Refusal::SnapRange => 6,
         Refusal::TooManySamples => 7,
+        Refusal::AxisCount => 13,
     }
 }

@@ -5,9 +5,9 @@ use Prim.Native.Nat.{ℕ, zero, suc, _-_, _≤_}
 use native.Mathlib.Omega.{arith}
 use lib.ListN.{length, take, getD, replicate, length-append, length-replicate}
 use lib.Seq.{take-at}
-use Rattle.planner.specs.Result.{Each}
+use Rattle.planner.specs.Result.{Each, padded}
 use Rattle.route_sheet.specs.Sheet.{Sheet, Within, mostSets, mostMoves, MoveAllowed, SheetAllowed}
-use Rattle.route_sheet.specs.Answer.{zeroMove, padded}
+use Rattle.route_sheet.specs.Answer.{zeroMove}
 use Rattle.route_sheet.specs.Inner.Route.{RouteListed}
 use Rattle.route_sheet.specs.declared.RouteMove.{RouteMove}
 

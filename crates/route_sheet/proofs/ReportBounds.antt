@@ -7,7 +7,7 @@ use lib.ListN.{length, length-append}
 use Rattle.planner.specs.Quantities.{along}
 use Rattle.planner.specs.Intervals.{p, q, r, s, N}
 use Rattle.planner.specs.Result.{Result, refused, given}
-use Rattle.planner.specs.Outcome.{intervalsIn, outcomeOf}
+use Rattle.planner.specs.Outcome.{intervalsOf, intervalsIn, outcomeOf}
 use Rattle.planner.specs.Inner.Facts.{PlanFacts}
 use Rattle.planner.specs.declared.Move.{Move}
 use Rattle.planner.specs.declared.Plan.{Plan}
@@ -24,7 +24,7 @@ module _ (number : ℕ) (m : Move) (few : number ≤ mostMoves) where
   unfolding moveReport field
   refusal-length n h = simp length-append (omega (arith, decimal-length 2 number (omega arith), decimal-length 0 n (omega arith)))
 
-  plan-length : (x : Plan) → PlanFacts m x → length (moveReport number (m .displacement) (given x)) ≤ mostLine
+  plan-length : (x : Plan) → PlanFacts m (intervalsOf m) x → length (moveReport number (m .displacement) (given x)) ≤ mostLine
   unfolding moveReport field
   plan-length x facts =
       let t = intervalsIn x in
@@ -34,7 +34,7 @@ module _ (number : ℕ) (m : Move) (few : number ≤ mostMoves) where
       let second = decimal-length 3 (q t) (omega (arith, facts .samples)) in
       let third = decimal-length 3 (r t) (omega (arith, facts .samples)) in
       let fourth = decimal-length 3 (s t) (omega (arith, facts .samples)) in
-      let size = decimal-length 15 (x .snap) (omega (arith, facts .bounds .snap, facts .accepted .in-range .snap .at-most)) in
+      let size = decimal-length 15 (x .snap) (omega (arith, facts .bounds .snap, facts .accepted .in-range .bounds .snap .at-most)) in
       let missing = decimal-length 11 (x .shortfall) (omega (arith, facts .shortfall-below, facts .product)) in
       simp length-append (omega (arith, rw size-along at (signed-length (along (m .displacement) (pos (x .snap))))))
 

@@ -5,11 +5,11 @@ use Prim.Native.Nat.{ℕ, suc, _+_, _*_, _≤_}
 use native.Mathlib.Omega.{arith}
 use lib.ListN.{length, take, replicate, length-append}
 use lib.Seq.{sets-eq}
-use Rattle.planner.specs.Result.{Result}
+use Rattle.planner.specs.Result.{Result, padded}
 use Rattle.route_sheet.specs.Text.{lineEnds}
 use Rattle.route_sheet.specs.Sheet.{Sheet, mostSets, mostMoves}
 use Rattle.route_sheet.specs.Beginning.{LongestBeginning, ComesTo, too-long, listed, malformed-at}
-use Rattle.route_sheet.specs.Answer.{zeroSet, zeroMove, padded}
+use Rattle.route_sheet.specs.Answer.{zeroSet, zeroMove}
 use Rattle.route_sheet.specs.Report.{field, moveOf, movesReport, sheetReport, mostReport, Reports}
 use Rattle.route_sheet.specs.Claims.{ReportFitsClaim}
 use Rattle.route_sheet.specs.Inner.Reading.{linesIn}

@@ -1,13 +1,12 @@
 -- The loop that puts the lines of the moves: its invariant, and what a turn keeps of it.
 use mathlib.Core.List.{List, [], _∷_, _++_, append-nil, append-assoc}
 use mathlib.Core.Path.{_≡_}
-use Prim.Native.Nat.{ℕ, zero, suc, _+_, _*_, _≤_, _<_}
+use Prim.Native.Nat.{ℕ, suc, _+_, _*_, _≤_, _<_}
 use native.Mathlib.Nat.{add-zero}
 use native.Mathlib.Numerals.{add-one}
 use native.Mathlib.Omega.{arith}
 use lib.ListN.{length, take, getD}
 use lib.Seq.{take-suc, length-take-le, getD-take}
-use Rattle.planner.specs.Result.{Each}
 use Rattle.planner.specs.Outcome.{outcomeOf}
 use Rattle.route_sheet.specs.Sheet.{Within, mostSets, mostMoves}
 use Rattle.route_sheet.specs.Answer.{zeroMove}
@@ -17,19 +16,15 @@ use Rattle.route_sheet.specs.Inner.Lines.{mostLine, LineRoom}
 use Rattle.route_sheet.specs.Inner.Route.{RouteListed}
 use Rattle.route_sheet.specs.declared.BoundSet.{BoundSet}
 use Rattle.route_sheet.specs.declared.RouteMove.{RouteMove}
+use Rattle.planner.proofs.EachLaws.{each-at}
 use Rattle.route_sheet.proofs.OutputLaws.{put-none, put-more}
 use Rattle.route_sheet.proofs.ReportBounds.{line-length}
-
-each-at : {A : Type 0} (P : A → Type 0) (xs : List A) (i : ℕ) (d : A) → Each P xs → i < length xs → P (getD xs i d)
-each-at P [] i d e h = absurd (omega arith)
-each-at P (x ∷ xs) zero d e h = e .0
-each-at P (x ∷ xs) (suc i) d e h = each-at P xs i d (e .1) (omega arith)
 
 pub set-within :
     (moves : List RouteMove) (count i : ℕ) → RouteListed moves count → i < count → Within 1 mostSets (getD moves i zeroMove .set)
 set-within moves count i listed h =
     let there : i < length (take count moves) = rw (length-take-le count moves (listed .count-places)) h in
-    let named = each-at (λ m. Within 1 mostSets (m .set)) (take count moves) i zeroMove (listed .each) there in
+    let named = each-at (λ m. Within 1 mostSets (m .set)) (take count moves) i zeroMove there (listed .each) in
     rw (getD-take count moves i zeroMove h) at named
 
 -- The line of one move more comes last.

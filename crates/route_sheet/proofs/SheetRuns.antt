@@ -6,10 +6,10 @@ use native.Mathlib.Omega.{arith}
 use borrow.Author.Tests.{lt-ltb, le-ltb}
 use lib.ListN.{length, take, drop, replicate, drop-of-length-le}
 use lib.Seq.{drop-cons, take-at}
-use Rattle.planner.specs.Result.{Result, refused, given}
+use Rattle.planner.specs.Result.{Result, refused, given, padded}
 use Rattle.route_sheet.specs.Text.{lineEnd}
 use Rattle.route_sheet.specs.Sheet.{Sheet, mostSets, mostMoves}
-use Rattle.route_sheet.specs.Answer.{Contents, zeroSet, zeroMove, padded, contentsOf}
+use Rattle.route_sheet.specs.Answer.{Contents, zeroSet, zeroMove, contentsOf}
 use Rattle.route_sheet.specs.Inner.Reading.{Parse, parsed, failed, addLines, thenRead, readNumber, readSet, readMove, readLines, readSecond, readSections, linesIn, wholeSheet}
 use Rattle.route_sheet.specs.Inner.Sections.{ReadsSection, AllSetsRead, setsIn, readAfter}
 use Rattle.route_sheet.specs.declared.BoundSet.{BoundSet}

@@ -1,10 +1,10 @@
 -- The reader's answer as the paper has it: the number and line of each refusal, and what a reading contains.
-use mathlib.Core.List.{List, _++_}
+use mathlib.Core.List.{List}
 use mathlib.Core.Path.{_≡_}
-use Prim.Native.Nat.{ℕ, _-_}
+use Prim.Native.Nat.{ℕ}
 use lib.IntN.{pos}
 use lib.ListN.{length, replicate}
-use Rattle.planner.specs.Result.{Result, refused, given}
+use Rattle.planner.specs.Result.{Result, refused, given, padded}
 use Rattle.route_sheet.specs.Sheet.{Sheet, mostSets, mostMoves}
 use Rattle.route_sheet.specs.Beginning.{ComesTo}
 use Rattle.route_sheet.specs.declared.BoundSet.{BoundSet}
@@ -31,9 +31,6 @@ zeroSet = record { velocity = 0; acceleration = 0; jerk = 0; snap = 0 }
 
 abbrev pub zeroMove : RouteMove
 zeroMove = record { displacement = pos 0; set = 0 }
-
-abbrev pub padded : {A : Type 0} → (places : ℕ) → A → List A → List A
-padded places unused xs = xs ++ replicate (places - length xs) unused
 
 -- What a reading contains: the answer, and every place of both arrays.
 pub record Contents : Type 0 where

@@ -10,11 +10,14 @@
 // r X V A J S places first: rows R, places of the reference table, sum S
 // f X V A J S m1 m2 k1 k2 k12 c places first: rows R, places of the force table as the bits of floats, sum S
 // b n length: read SETS MOVES sum S, or refused 11 line L sum S, or refused 12 sum S; then the report
+// P count and eight times X V A J S: planned N, or refused R place L; then eight times a b c e D shortfall
+// S count and eight times X V A J S, k: sample, or refused R place L; then eight times snap jerk acceleration velocity position count
 //
 // A move that is refused has `refused N` for its plan, its sample or its rows. A table is lent with the number of places that is asked for,
 // at most 4,200, and written from place `first` on, at most 12 places. The n bytes after a line of kind b are the start of a sheet's text,
 // which zeros fill up to its length: n is at most the length, and that at most 65,536. The sum is taken over every place after the call,
 // those of a sheet's sets and moves too. It starts at 0, and each place makes it 33 times itself and the place's 64 bits, modulo 2^64.
+mod axes;
 mod forces;
 mod moves;
 mod numbers;
@@ -24,6 +27,8 @@ mod sums;
 mod tables;
 mod writing;
 
+use crate::axes::answer_axes_plan;
+use crate::axes::answer_axes_sample;
 use crate::forces::answer_forces;
 use crate::moves::answer_plan;
 use crate::moves::answer_sample;
@@ -53,6 +58,8 @@ fn answer(kind: u8) {
         b't' | b'r' => answer_positions(kind),
         b'f' => answer_forces(),
         b'b' => answer_sheet(),
+        b'P' => answer_axes_plan(),
+        b'S' => answer_axes_sample(),
         _ => {
             io::write_all(1, b"unknown kind\n");
         }

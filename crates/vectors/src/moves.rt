@@ -5,8 +5,10 @@ use crate::writing::write_byte;
 use crate::writing::write_number;
 use crate::writing::write_refused;
 use crate::writing::write_signed;
+use motion::Sample;
 use motion::SampleAnswer;
 use planner::Move;
+use planner::Plan;
 use planner::PlanAnswer;
 
 // The number of which these are the two's complement. The least one has no positive counterpart, so the bits are inverted.
@@ -33,15 +35,19 @@ pub(crate) fn answer_plan() {
         PlanAnswer::Refused(refusal) => write_refused(planner::refusal_number(refusal)),
         PlanAnswer::Planned(plan) => {
             io::write_all(1, b"planned");
-            write_number(plan.a);
-            write_number(plan.b);
-            write_number(plan.c);
-            write_number(plan.e);
-            write_number(plan.snap);
-            write_number(plan.shortfall);
+            write_plan(plan);
         }
     }
     write_byte(b'\n');
+}
+
+pub(crate) fn write_plan(plan: Plan) {
+    write_number(plan.a);
+    write_number(plan.b);
+    write_number(plan.c);
+    write_number(plan.e);
+    write_number(plan.snap);
+    write_number(plan.shortfall);
 }
 
 pub(crate) fn answer_sample() {
@@ -50,13 +56,17 @@ pub(crate) fn answer_sample() {
         SampleAnswer::Refused(refusal) => write_refused(motion::refusal_number(refusal)),
         SampleAnswer::Sampled(sample) => {
             io::write_all(1, b"sample");
-            write_signed(sample.snap);
-            write_signed(sample.jerk);
-            write_signed(sample.acceleration);
-            write_signed(sample.velocity);
-            write_signed(sample.position);
-            write_signed(sample.count);
+            write_sample(sample);
         }
     }
     write_byte(b'\n');
+}
+
+pub(crate) fn write_sample(sample: Sample) {
+    write_signed(sample.snap);
+    write_signed(sample.jerk);
+    write_signed(sample.acceleration);
+    write_signed(sample.velocity);
+    write_signed(sample.position);
+    write_signed(sample.count);
 }

@@ -3,6 +3,7 @@
 //! Each contest runs the archive and what it is held against in turn, in one
 //! process, on the same inputs and memory, after all gave the same answers.
 
+mod axes;
 mod contest;
 mod figures;
 mod forces;
@@ -50,7 +51,7 @@ pub fn run() -> Result<String, String> {
     Ok(markdown::preface(REPEATS) + &tables)
 }
 
-fn sections() -> Result<[Section; 7], String> {
+fn sections() -> Result<[Section; 8], String> {
     Ok([
         plans::section()?,
         samples::section()?,
@@ -59,6 +60,7 @@ fn sections() -> Result<[Section; 7], String> {
         forces::section("Force table, rigid drive", &forces::RIGID)?,
         forces::section("Force table, filtered drive", &forces::FILTERED)?,
         sheets::section()?,
+        axes::section()?,
     ])
 }
 

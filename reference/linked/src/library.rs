@@ -4,11 +4,11 @@
 mod forms;
 mod layout;
 
-pub use layout::{BoundSet, RouteMove};
+pub use layout::{AxesPlanResult, AxesSampleResult, BoundSet, RouteMove};
 pub use layout::{PlanResult, SampleResult, SheetResult, TableResult};
 pub use layout::{MOST_MOVES, MOST_SETS, REPORT_BYTES};
 pub use reference::force::Machine;
-pub use reference::planner::Move;
+pub use reference::planner::{Axes, Move};
 
 extern "C" {
     fn nitswolan_plan_move(motion: Move) -> PlanResult;
@@ -23,15 +23,25 @@ extern "C" {
     ) -> TableResult;
     fn nitswolan_read_sheet(text: *const u8, length: usize) -> SheetResult;
     fn nitswolan_report(text: *const u8, length: usize, report: *mut u8) -> usize;
+    fn nitswolan_plan_axes(axes: Axes) -> AxesPlanResult;
+    fn nitswolan_sample_axes(axes: Axes, sample: u64) -> AxesSampleResult;
 }
 
 pub fn plan_move(motion: Move) -> PlanResult {
-    // SAFETY: only values are passed. This holds for `sample_move` too.
+    // SAFETY: only values are passed. This holds up to `sample_axes` too.
     unsafe { nitswolan_plan_move(motion) }
 }
 
 pub fn sample_move(motion: Move, sample: u64) -> SampleResult {
     unsafe { nitswolan_sample_move(motion, sample) }
+}
+
+pub fn plan_axes(axes: Axes) -> AxesPlanResult {
+    unsafe { nitswolan_plan_axes(axes) }
+}
+
+pub fn sample_axes(axes: Axes, sample: u64) -> AxesSampleResult {
+    unsafe { nitswolan_sample_axes(axes, sample) }
 }
 
 pub fn fill_positions(motion: Move, table: &mut [i64]) -> TableResult {

@@ -1,6 +1,7 @@
 //! A request with its outcome, as the conditions look at it. What the request
 //! does not have reads as 0, empty or none.
 
+use super::axes::Set;
 use crate::draw::samples::beyond_half;
 use crate::force::{write_rows, Coefficients, Drive, Machine};
 use crate::planner::{deciding_lower_limits, deciding_searches, Intervals, Move};
@@ -42,9 +43,12 @@ impl Case<'_> {
         Intervals::of(self.request.motion()?).ok()
     }
 
-    /// N, also where it is above 4,096.
+    /// N, also where it is above 4,096; of a set the largest of its axes.
     pub fn n(&self) -> u128 {
-        self.found().map_or(0, |found| found.samples())
+        match Set::of(self) {
+            Some(set) => set.n().into(),
+            None => self.found().map_or(0, |found| found.samples()),
+        }
     }
 
     /// Whether a search, or a lower limit, alone gives its interval.
@@ -126,14 +130,15 @@ impl Case<'_> {
 
     pub fn k(&self) -> u128 {
         match self.request {
-            Request::Sample(_, k) => (*k).into(),
+            Request::Sample(_, k) | Request::SampleAxes(_, k) => (*k).into(),
             _ => 0,
         }
     }
 
-    /// The direction of a sample's position, and how far it is beyond a half count.
-    pub fn beyond_half(&self) -> [i64; 2] {
-        let position = self.field(5) as i64;
+    /// The direction of the position in this field, and how far it is beyond a half
+    /// count.
+    pub fn beyond_half(&self, field: usize) -> [i64; 2] {
+        let position = self.field(field) as i64;
         [position.signum(), beyond_half(position)]
     }
 

@@ -1,21 +1,41 @@
-//! What is asked about a move: a sample, or a table of so many places.
+//! What is asked about a move: a sample, or a table of so many places; and a
+//! sample of a set.
 
 use super::Random;
-use crate::planner::{plan, Move, UNITS_PER_COUNT};
+use crate::planner::{plan, plan_axes, Axes, Move, UNITS_PER_COUNT};
 use crate::profile::Profile;
 
-/// A sample inside the move, next to a border of its segments (N is the last),
-/// with a position nearest to a half count, or beyond the end.
 pub fn sample(motion: &Move, random: &mut Random) -> u64 {
-    let Ok(profile) = Profile::of(motion) else {
-        return random.log_uniform(5_000);
+    match Profile::of(motion) {
+        Ok(profile) => of_profile(&profile, random),
+        Err(_) => random.log_uniform(5_000),
+    }
+}
+
+/// A sample by the profile of any moving axis; or after the end that the axis has
+/// by itself.
+pub fn sample_of_axes(axes: &Axes, random: &mut Random) -> u64 {
+    let Ok(set) = plan_axes(axes) else {
+        return random.pick(&[0, 9, 4_097, u64::MAX]);
     };
+    let axes = axes.moves.iter().zip(&set.plans);
+    let moving: Vec<_> = axes.filter(|(_, plan)| plan.samples() > 0).collect();
+    let (motion, raised) = random.pick(&moving);
+    match plan(motion).samples() {
+        Some(own) if own < set.samples && random.once_in(3) => random.between(own + 1, set.samples),
+        _ => of_profile(&Profile::planned(motion, raised), random),
+    }
+}
+
+/// A sample inside the profile, next to a border of its segments (N is the last),
+/// with a position nearest to a half count, or beyond the end.
+fn of_profile(profile: &Profile, random: &mut Random) -> u64 {
     let n = profile.samples;
     match random.below(8) {
         0 | 1 => random
-            .pick(&borders(&profile))
+            .pick(&borders(profile))
             .saturating_add_signed(random.pick(&[-1, 0, 1])),
-        2 => nearest_half(&profile),
+        2 => nearest_half(profile),
         3 => random.pick(&[n, n + 1, n + 2, n + (1 << 32), 1 << 63, u64::MAX]),
         _ => random.between(0, n),
     }

@@ -45,21 +45,17 @@ impl Move {
 
     /// The first of the refusals 1 to 6 that applies.
     pub fn range_refusal(&self) -> Option<u8> {
-        let size = self.displacement.unsigned_abs();
-        let refusals = [
-            (1, size == 0),
-            (2, size > LARGEST_DISPLACEMENT),
-            (3, outside(self.velocity)),
-            (4, outside(self.acceleration)),
-            (5, outside(self.jerk)),
-            (6, outside(self.snap)),
-        ];
-        let first = refusals.iter().find(|(_, applies)| *applies);
-        first.map(|(number, _)| *number)
+        match self.displacement.unsigned_abs() {
+            0 => Some(1),
+            size if size > LARGEST_DISPLACEMENT => Some(2),
+            _ => self.bound_refusal(),
+        }
     }
-}
 
-/// Whether a bound is not in 1 to 2^50.
-fn outside(bound: u64) -> bool {
-    !(1..=LARGEST_BOUND).contains(&bound)
+    /// The first of the refusals 3 to 6 that applies.
+    pub fn bound_refusal(&self) -> Option<u8> {
+        let outside = |bound: &u64| !(1..=LARGEST_BOUND).contains(bound);
+        let first = self.bounds().iter().position(outside);
+        first.map(|place| 3 + place as u8)
+    }
 }

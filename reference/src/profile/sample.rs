@@ -1,7 +1,7 @@
-//! One sample of a move.
+//! One sample of a move, or of every axis of a set.
 
 use super::{nearest_count, Profile};
-use crate::planner::Move;
+use crate::planner::{plan_axes, Axes, AxesRefusal, Move, MOST_AXES};
 
 /// What the one-sample entry says.
 #[derive(Clone, Copy, Debug, PartialEq, Eq)]
@@ -11,8 +11,10 @@ pub enum SampleAnswer {
     Sampled(Sample),
 }
 
-/// The five values in units, and the position in counts.
-#[derive(Clone, Copy, Debug, PartialEq, Eq)]
+/// The five values in units, and the position in counts. In C's layout, as the
+/// library gives it.
+#[repr(C)]
+#[derive(Clone, Copy, Debug, Default, PartialEq, Eq)]
 pub struct Sample {
     pub snap: i64,
     pub jerk: i64,
@@ -33,23 +35,50 @@ impl Sample {
             self.position,
         ]
     }
+
+    /// All six numbers: the values and the count.
+    pub fn numbers(&self) -> [i64; 6] {
+        let [snap, jerk, acceleration, velocity, position] = self.values();
+        [snap, jerk, acceleration, velocity, position, self.count]
+    }
+
+    /// The values at a sample from 0 to N, summed from rest.
+    fn of(profile: &Profile, k: u64) -> Sample {
+        let asked = profile.states().nth(k as usize);
+        let (snap, state) = asked.expect("samples 0 to N are there");
+        Sample {
+            snap,
+            jerk: state.jerk,
+            acceleration: state.acceleration,
+            velocity: state.velocity,
+            position: state.position,
+            count: nearest_count(state.position),
+        }
+    }
 }
 
-/// The values at sample k, summed from rest, or the lowest refusal that applies.
+/// The values at sample k, or the lowest refusal that applies.
 pub fn sample(motion: &Move, k: u64) -> SampleAnswer {
-    let profile = match Profile::of(motion) {
-        Ok(profile) if k <= profile.samples => profile,
-        Ok(_) => return SampleAnswer::Refused(9),
-        Err(number) => return SampleAnswer::Refused(number),
-    };
-    let asked = profile.states().nth(k as usize);
-    let (snap, state) = asked.expect("samples 0 to N are there");
-    SampleAnswer::Sampled(Sample {
-        snap,
-        jerk: state.jerk,
-        acceleration: state.acceleration,
-        velocity: state.velocity,
-        position: state.position,
-        count: nearest_count(state.position),
-    })
+    match Profile::of(motion) {
+        Ok(profile) if k <= profile.samples => SampleAnswer::Sampled(Sample::of(&profile, k)),
+        Ok(_) => SampleAnswer::Refused(9),
+        Err(number) => SampleAnswer::Refused(number),
+    }
+}
+
+/// The values of every axis at sample k, 0 for one at rest and after the last; 9
+/// comes after the axes, and k may be beyond the end that an axis has by itself.
+pub fn sample_axes(axes: &Axes, k: u64) -> Result<[Sample; MOST_AXES], AxesRefusal> {
+    let set = plan_axes(axes)?;
+    if k > set.samples {
+        let (place, number) = (0, 9);
+        return Err(AxesRefusal { place, number });
+    }
+    let mut samples = [Sample::default(); MOST_AXES];
+    for (place, plan) in set.plans.iter().enumerate() {
+        if plan.samples() > 0 {
+            samples[place] = Sample::of(&Profile::planned(&axes.moves[place], plan), k);
+        }
+    }
+    Ok(samples)
 }

@@ -23,19 +23,12 @@ fn move_lines(sheet: &Sheet) -> String {
 fn move_line(number: usize, motion: &Move) -> String {
     match plan(motion) {
         Answer::Refused(refusal) => format!("move {number} refused {refusal}\n"),
-        Answer::Planned {
-            a,
-            b,
-            c,
-            e,
-            snap,
-            shortfall,
-        } => {
-            let n = a + b + c + e;
-            let [p, q, r, s] = durations([a, b, c, e]);
+        Answer::Planned(plan) => {
+            let (n, short) = (plan.samples(), plan.shortfall);
+            let [p, q, r, s] = durations(plan.intervals);
             // D is at most S, which is at most 2^50.
-            let snap = snap as i64 * motion.displacement.signum();
-            format!("move {number} n {n} p {p} q {q} r {r} s {s} snap {snap} short {shortfall}\n")
+            let snap = plan.snap as i64 * motion.displacement.signum();
+            format!("move {number} n {n} p {p} q {q} r {r} s {s} snap {snap} short {short}\n")
         }
     }
 }

@@ -1,7 +1,7 @@
 //! Requests and answers as text, in the form that the program `vectors` has.
 
 use crate::force::Machine;
-use crate::planner::Move;
+use crate::planner::{Axes, Move};
 use crate::request::{Outcome, Request};
 
 /// Places of a table that are written out; the sum is over all of them.
@@ -27,6 +27,8 @@ pub fn input(request: &Request, outcome: &Outcome) -> Vec<u8> {
             format!("f{motion}{machine} {places} {}", first(*places, outcome))
         }
         Request::Sheet(text) => return sheet_input(text),
+        Request::PlanAxes(axes) => format!("P{}", of_axes(axes)),
+        Request::SampleAxes(axes, k) => format!("S{} {k}", of_axes(axes)),
     };
     (line + "\n").into_bytes()
 }
@@ -34,6 +36,14 @@ pub fn input(request: &Request, outcome: &Outcome) -> Vec<u8> {
 fn of_move(motion: &Move) -> String {
     let bounds = motion.bounds().map(|bound| format!(" {bound}"));
     format!(" {}{}", motion.displacement, bounds.concat())
+}
+
+fn of_axes(axes: &Axes) -> String {
+    format!(
+        " {}{}",
+        axes.count,
+        axes.moves.map(|motion| of_move(&motion)).concat()
+    )
 }
 
 fn of_machine(machine: &Machine) -> String {
@@ -76,6 +86,8 @@ pub fn output(request: &Request, outcome: &Outcome) -> Vec<u8> {
             let report = outcome.rows.iter().map(|byte| *byte as u8);
             return line.into_bytes().into_iter().chain(report).collect();
         }
+        Request::PlanAxes(_) => of_set("planned", 3, outcome),
+        Request::SampleAxes(..) => of_set("sample", 2, outcome),
     };
     (line + "\n").into_bytes()
 }
@@ -89,6 +101,17 @@ fn answer(word: &str, numbers: &[i128], outcome: &Outcome) -> String {
         11 => format!("refused 11 line {}", outcome.fields[1]),
         number => format!("refused {number}"),
     }
+}
+
+/// The word and N, if it is given, or the refusal with its place; then the places,
+/// which begin at this field.
+fn of_set(word: &str, places: usize, outcome: &Outcome) -> String {
+    let (head, places) = outcome.fields.split_at(places);
+    let answer = match head[0] {
+        0 => answer(word, &head[2..], outcome),
+        number => format!("refused {number} place {}", head[1]),
+    };
+    places.iter().fold(answer, |line, x| format!("{line} {x}"))
 }
 
 /// The answer, some places of the table after the call, and the sum over all.

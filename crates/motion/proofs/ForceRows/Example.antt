@@ -37,7 +37,7 @@ use Rattle.motion.proofs.ForceRows.Theorems.{rigid-row}
 abbrev intervals : Intervals
 intervals = record { a = 1; b = 1; c = 2; e = 4 }
 
-plan : PlanFacts firstStarred (record { a = 1; b = 1; c = 2; e = 4; snap = G; shortfall = 0 })
+plan : PlanFacts firstStarred (intervalsOf firstStarred) (record { a = 1; b = 1; c = 2; e = 4; snap = G; shortfall = 0 })
 unfolding outcomeOf firstRefusal samplesOf intervalsOf distance a J₁ b A₁ c V₁ e interval-a interval-b interval-c interval-e least firstFrom
 plan = planned-facts (record { outcome-is = refl })
 

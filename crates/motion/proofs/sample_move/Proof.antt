@@ -2,6 +2,7 @@
 use borrow.Author.Needs.{needs}
 use mir.Syntax.{w64}
 use mir.Facts.{toZ-ofZ}
+use Rattle.planner.specs.Outcome.{intervalsOf}
 use Rattle.planner.specs.Inner.Facts.{PlanFacts}
 use Rattle.planner.proofs.PlannedFacts.{answer-facts}
 use Rattle.motion.proofs.EntryLaws.{not-planned, within-range}
@@ -25,7 +26,8 @@ returns : tie.Need-returns
 returns c = sample-refused (c .before .before .before .plan-move .ensures) (c .unsampled .ensures)
 
 -- the plan that was found
-plan : (c : tie.After-answer) → PlanFacts (c .before .before .before .args .m) (c .answer .given .0 .0)
+plan : (c : tie.After-answer)
+    → PlanFacts (c .before .before .before .args .m) (intervalsOf (c .before .before .before .args .m)) (c .answer .given .0 .0)
 plan c = answer-facts (c .before .before .plan-move .ensures) (c .answer .given .1)
 
 samples-in-plan-requires : tie.Need-samples-in-plan-requires

@@ -19,10 +19,10 @@ use Rattle.motion.specs.ForceRows.Force.{forceRow}
 use Rattle.motion.specs.declared.Sample.{Sample}
 
 -- The planner's refusal is passed on.
-pub record PassedOn {A : Type 0} (o : Result ℕ Plan) (p : Result ℕ A) : Type 0 where
-  pub number : ℕ
-  pub refused-by : o ≡ refused number
-  pub refused-with : p ≡ refused number
+pub record PassedOn {R A B : Type 0} (o : Result R A) (p : Result R B) : Type 0 where
+  pub refusal : R
+  pub refused-by : o ≡ refused refusal
+  pub refused-with : p ≡ refused refusal
 
 -- The widths of the intervals around a, the outermost first.
 abbrev pub widthsOf : Intervals → List ℕ
@@ -60,7 +60,7 @@ pub record RowsIn {A : Type 0} (rows : ℕ) (row : ℕ → A) (old new : List A)
   pub table-is : new ≡ rowsFrom row 0 rows ++ drop rows old
 
 -- The same where the table has room for the rows, else refusal 8; and the entry's own refusals.
-pub record WritesRows {A : Type 0} (own : List Check) (rows : ℕ) (row : ℕ → A) (old : List A) (o : Result ℕ ℕ) (new : List A) : Type 0 where
+pub record WritesRows {A : Type 0} (own : List (Check ℕ)) (rows : ℕ) (row : ℕ → A) (old : List A) (o : Result ℕ ℕ) (new : List A) : Type 0 where
   pub outcome-is : o ≡ firstRefusal (check 8 (ltb (length old) rows) ∷ own) (given rows)
   pub table-is : new ≡ tableOf o (rowsFrom row 0 rows) old
 

@@ -1,22 +1,14 @@
 -- Intervals that are searched for up to a cap only, and how they stand to the rule's.
 use mathlib.Core.Path.{_≡_}
-use mathlib.Core.List.{[], _∷_}
 use Prim.Native.Nat.{ℕ, _*_, _^_, _≤_, _<_, min}
-use lib.Dec.{ltb}
 use Rattle.planner.specs.Intervals.{Intervals, N, intervalsBy}
-use Rattle.planner.specs.Result.{Result, given, check, firstRefusal}
-use Rattle.planner.specs.Outcome.{mostSamples, planOf}
-use Rattle.planner.specs.Claims.{BoundInRange}
-use Rattle.planner.specs.declared.Plan.{Plan}
+use Rattle.planner.specs.Claims.{BoundInRange, BoundsInRange}
 use Rattle.planner.specs.declared.intervals.Intervals as code
 
 -- The figures of a move in range, by its distance.
 pub record Figures (W V₀ A₀ J₀ S₀ : ℕ) : Type 0 where
   pub distance : W ≤ 2 ^ 60
-  pub velocity : BoundInRange V₀
-  pub acceleration : BoundInRange A₀
-  pub jerk : BoundInRange J₀
-  pub snap : BoundInRange S₀
+  pub bounds : BoundsInRange V₀ A₀ J₀ S₀
 
 -- r and x are the same number, or both are at least cap; r is from 1 to most.
 pub record Agrees (cap most r x : ℕ) : Type 0 where
@@ -39,9 +31,3 @@ pub record IntervalsAgree (cap W V₀ A₀ J₀ S₀ : ℕ) (t : Intervals) : Ty
   pub same : N t < cap → t ≡ intervalsBy W V₀ A₀ J₀ S₀
   pub positive : (1 ≤ t .a) × (1 ≤ t .b) × (1 ≤ t .c) × (1 ≤ t .e)
   pub at-most : (t .a ≤ cap) × (t .b ≤ cap) × (t .c ≤ 2 * cap) × (t .e ≤ 4 * cap)
-
--- What is left of the rule where refusals 1 to 6 do not apply.
-unfoldable pub planWithin : (W V₀ A₀ J₀ S₀ : ℕ) → Result ℕ Plan
-planWithin W V₀ A₀ J₀ S₀ =
-    let t = intervalsBy W V₀ A₀ J₀ S₀ in
-    firstRefusal (check 7 (ltb mostSamples (N t)) ∷ []) (given (planOf W t))

@@ -1,8 +1,8 @@
--- All that holds of a plan. `planned-facts` leads from "planned" to it, and other crates use that in place of the rules' own text.
+-- All that holds of a plan of a move. `planned-facts` leads from "planned" to it, and other crates use that in place of the rules' own text.
 use mathlib.Core.Path.{_≡_}
 use Prim.Native.Nat.{ℕ, _+_, _*_, _^_, _≤_, _<_}
 use Rattle.planner.specs.Intervals.{Intervals, N, P}
-use Rattle.planner.specs.Outcome.{mostSamples, distanceOf, intervalsOf, planOf, intervalsIn}
+use Rattle.planner.specs.Outcome.{mostSamples, distanceOf, planOf, intervalsIn}
 use Rattle.planner.specs.Claims.{Accepted}
 use Rattle.planner.specs.declared.Move.{Move}
 use Rattle.planner.specs.declared.Plan.{Plan}
@@ -21,9 +21,10 @@ pub record KeepsBounds (m : Move) (t : Intervals) (D : ℕ) : Type 0 where
   pub acceleration : D * (t .a * t .b) ≤ m .acceleration
   pub velocity : D * (t .a * t .b * t .c) ≤ m .velocity
 
-pub record PlanFacts (m : Move) (x : Plan) : Type 0 where
+-- The plan x of an accepted move in the intervals t: the rule's own, or those with a raised e.
+pub record PlanFacts (m : Move) (t : Intervals) (x : Plan) : Type 0 where
   pub accepted : Accepted m
-  pub plan-rule : x ≡ planOf (distanceOf m) (intervalsOf m)
+  pub plan-rule : x ≡ planOf (distanceOf m) t
   pub ordered : Ordered (intervalsIn x)
   pub samples : N (intervalsIn x) ≤ mostSamples
   pub product : P (intervalsIn x) ≤ 2 ^ 39

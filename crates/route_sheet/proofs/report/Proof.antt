@@ -5,11 +5,11 @@ use mathlib.Core.Path.{_≡_, ap}
 use Prim.Native.Nat.{ℕ}
 use native.Mathlib.Omega.{arith}
 use lib.ListN.{length}
-use Rattle.planner.specs.Result.{refused, given}
+use Rattle.planner.specs.Result.{refused, given, padded}
 use Rattle.planner.proofs.ResultLaws.{same-given}
 use Rattle.route_sheet.specs.Sheet.{mostSets, mostMoves}
 use Rattle.route_sheet.specs.Beginning.{ComesTo, listed}
-use Rattle.route_sheet.specs.Answer.{numberAndLine, Contents, contentsOf, zeroSet, zeroMove, padded}
+use Rattle.route_sheet.specs.Answer.{numberAndLine, Contents, contentsOf, zeroSet, zeroMove}
 use Rattle.route_sheet.specs.Report.{sheetReport, mostReport}
 use Rattle.route_sheet.proofs.ReadingTheorems.{answer-is, WrittenBack, written-back, refusal-comes-to}
 use Rattle.route_sheet.proofs.ContentsLaws.{listed-route}

@@ -6,7 +6,8 @@ use Prim.Native.Nat.{ℕ, _+_, _≤_}
 use lib.Dec.{ltb}
 use lib.ListN.{length, take, drop}
 use Rattle.route_sheet.specs.Sheet.{Sheet, mostSets, mostMoves}
-use Rattle.route_sheet.specs.Answer.{zeroSet, zeroMove, padded}
+use Rattle.planner.specs.Result.{padded}
+use Rattle.route_sheet.specs.Answer.{zeroSet, zeroMove}
 use Rattle.route_sheet.specs.Inner.Reading.{Parse, parsed, failed, addLines, readLines, readSet, readMove, readSecond}
 use Rattle.route_sheet.specs.declared.BoundSet.{BoundSet}
 use Rattle.route_sheet.specs.declared.sections.SetsRead.{SetsRead}

@@ -24,17 +24,15 @@ struct Plan {
 /// The plan for N and `more` rows, if the table has room for them; otherwise the
 /// refusal.
 fn planned(motion: &Move, places: usize, more: u64) -> Result<Plan, u8> {
-    let (intervals, size) = match plan_narrow(motion) {
+    let plan = match plan_narrow(motion) {
         Answer::Refused(number) => return Err(number),
-        Answer::Planned {
-            a, b, c, e, snap, ..
-        } => ([a, b, c, e], snap as i64),
+        Answer::Planned(plan) => plan,
     };
-    let rows = intervals.iter().sum::<u64>() + more;
+    let rows = plan.samples() + more;
     if (places as u64) < rows {
         return Err(8);
     }
-    let snap = size * motion.displacement.signum();
-    let segments = segments(durations(intervals), snap);
+    let snap = plan.snap as i64 * motion.displacement.signum();
+    let segments = segments(durations(plan.intervals), snap);
     Ok(Plan { segments, rows })
 }

@@ -31,6 +31,8 @@ pub fn misfit(entries: &dyn Entries, request: &Request, wanted: &Outcome) -> Opt
             let given = entries.read_sheet(text).fields();
             fields(given, wanted).or_else(|| report(entries, text, &wanted.rows))
         }
+        Request::PlanAxes(axes) => fields(entries.plan_axes(*axes).fields(), wanted),
+        Request::SampleAxes(axes, k) => fields(entries.sample_axes(*axes, *k).fields(), wanted),
     }
 }
 

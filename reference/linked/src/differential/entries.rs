@@ -1,7 +1,7 @@
 //! The entries that are compared with the reference.
 
 use super::lent::Lent;
-use crate::library::{self, Machine, Move};
+use crate::library::{self, Axes, AxesPlanResult, AxesSampleResult, Machine, Move};
 use crate::library::{PlanResult, SampleResult, SheetResult, TableResult};
 
 /// The published entries; a test overrides one of them with a wrong one.
@@ -35,6 +35,14 @@ pub trait Entries {
     fn report(&self, text: &[u8], buffer: &mut Lent<u8>) -> usize {
         let places = buffer.places().try_into();
         library::report(text, places.expect("a report's buffer has one length"))
+    }
+
+    fn plan_axes(&self, axes: Axes) -> AxesPlanResult {
+        library::plan_axes(axes)
+    }
+
+    fn sample_axes(&self, axes: Axes, sample: u64) -> AxesSampleResult {
+        library::sample_axes(axes, sample)
     }
 }
 

@@ -1,23 +1,22 @@
 //! Each answer as a list of all its fields, in the order of
 //! `reference::request::Outcome`.
 
+use super::layout::{AxesPlanResult, AxesSampleResult};
 use super::layout::{PlanResult, SampleResult, SheetResult, TableResult};
+use reference::planner::Plan;
+use reference::profile::Sample;
 
 impl PlanResult {
     pub fn fields(&self) -> Vec<i128> {
-        let head = [self.refusal, self.samples];
-        let plan = [self.a, self.b, self.c, self.e, self.snap, self.shortfall];
-        head.into_iter().chain(plan).map(i128::from).collect()
+        let head = [self.refusal, self.samples].into_iter();
+        head.chain(self.plan.numbers()).map(i128::from).collect()
     }
 }
 
 impl SampleResult {
     pub fn fields(&self) -> Vec<i128> {
-        let values = [self.snap, self.jerk, self.acceleration, self.velocity];
-        let mut list = vec![self.refusal.into()];
-        list.extend(values.map(i128::from));
-        list.extend([self.position, self.count].map(i128::from));
-        list
+        let numbers = self.sample.numbers().map(i128::from);
+        [self.refusal.into()].into_iter().chain(numbers).collect()
     }
 }
 
@@ -38,5 +37,21 @@ impl SheetResult {
             list.extend([i128::from(entry.displacement), entry.set.into()]);
         }
         list
+    }
+}
+
+impl AxesPlanResult {
+    pub fn fields(&self) -> Vec<i128> {
+        let head = [self.refusal, self.place, self.samples].into_iter();
+        let plans = self.plans.iter().flat_map(Plan::numbers);
+        head.chain(plans).map(i128::from).collect()
+    }
+}
+
+impl AxesSampleResult {
+    pub fn fields(&self) -> Vec<i128> {
+        let head = [self.refusal, self.place].map(i128::from).into_iter();
+        let values = self.values.iter().flat_map(Sample::numbers);
+        head.chain(values.map(i128::from)).collect()
     }
 }

@@ -1,4 +1,8 @@
-//! The types of `include/nitswolan.h`, field by field.
+//! The types of `include/nitswolan.h`. The six numbers of a plan, or of a sample, lie
+//! one after the other, whether the header names them as a struct or one by one.
+
+use reference::planner::{Plan, MOST_AXES};
+use reference::profile::Sample;
 
 /// The bytes of a report's buffer.
 pub const REPORT_BYTES: usize = 32_768;
@@ -12,24 +16,14 @@ pub const MOST_MOVES: usize = 256;
 pub struct PlanResult {
     pub refusal: u64,
     pub samples: u64,
-    pub a: u64,
-    pub b: u64,
-    pub c: u64,
-    pub e: u64,
-    pub snap: u64,
-    pub shortfall: u64,
+    pub plan: Plan,
 }
 
 #[repr(C)]
 #[derive(Clone, Copy, Debug, PartialEq, Eq)]
 pub struct SampleResult {
     pub refusal: u64,
-    pub snap: i64,
-    pub jerk: i64,
-    pub acceleration: i64,
-    pub velocity: i64,
-    pub position: i64,
-    pub count: i64,
+    pub sample: Sample,
 }
 
 #[repr(C)]
@@ -64,4 +58,21 @@ pub struct SheetResult {
     pub move_count: u64,
     pub sets: [BoundSet; MOST_SETS],
     pub moves: [RouteMove; MOST_MOVES],
+}
+
+#[repr(C)]
+#[derive(Clone, Copy, Debug, PartialEq, Eq)]
+pub struct AxesPlanResult {
+    pub refusal: u64,
+    pub place: u64,
+    pub samples: u64,
+    pub plans: [Plan; MOST_AXES],
+}
+
+#[repr(C)]
+#[derive(Clone, Copy, Debug, PartialEq, Eq)]
+pub struct AxesSampleResult {
+    pub refusal: u64,
+    pub place: u64,
+    pub values: [Sample; MOST_AXES],
 }

@@ -1,5 +1,6 @@
 //! Libraries with one fault each: the differential test must find every one.
 
+mod axes;
 mod force;
 mod plan;
 mod samples;

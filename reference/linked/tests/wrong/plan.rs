@@ -8,7 +8,7 @@ struct SnapOneMore;
 impl Entries for SnapOneMore {
     fn plan_move(&self, motion: Move) -> PlanResult {
         let mut result = Proved.plan_move(motion);
-        result.snap += u64::from(result.shortfall > 0);
+        result.plan.snap += u64::from(result.plan.shortfall > 0);
         result
     }
 }
@@ -24,7 +24,7 @@ struct LeftAtRefusal;
 impl Entries for LeftAtRefusal {
     fn plan_move(&self, motion: Move) -> PlanResult {
         let mut result = Proved.plan_move(motion);
-        result.e = result.e.max(u64::from(result.refusal == 7));
+        result.plan.intervals[3] += u64::from(result.refusal == 7);
         result
     }
 }

@@ -26,8 +26,9 @@ struct HalfTowardsZero;
 impl Entries for HalfTowardsZero {
     fn sample_move(&self, motion: Move, sample: u64) -> SampleResult {
         let mut result = Proved.sample_move(motion, sample);
-        if result.position.unsigned_abs() % (1 << 40) == 1 << 39 {
-            result.count -= result.position.signum();
+        let position = result.sample.position;
+        if position.unsigned_abs() % (1 << 40) == 1 << 39 {
+            result.sample.count -= position.signum();
         }
         result
     }

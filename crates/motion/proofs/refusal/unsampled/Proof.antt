@@ -14,7 +14,7 @@ enum-known-answer-2 : tie.Need-enum-known-answer-2
 enum-known-answer-2 c = search needs
 
 returns : tie.Need-returns
-returns c = record { number = _; refused-by = ap outcome (c .before .answer .given .1); refused-with = refl }
+returns c = record { refusal = _; refused-by = ap outcome (c .before .answer .given .1); refused-with = refl }
 
 returns-2 : tie.Need-returns-2
 returns-2 c =

@@ -8,7 +8,7 @@
 //! Nothing passes 64 bits: each f(n) is below 2^50, and J1, A1 and V1 come from
 //! products of at most 2^50 and an interval of 8,194.
 
-use reference::planner::{Answer, Move, MOST_SAMPLES};
+use reference::planner::{Answer, Move, Plan, MOST_SAMPLES};
 
 /// What a search gives where no number up to 4,096 has its property. One such
 /// interval makes a refusal, so later ones need not be right.
@@ -62,12 +62,10 @@ fn least(mut low: u64, mut high: u64, needed: u64, growth: impl Fn(u64) -> u64) 
 fn planned(w: u64, [a, b, c, e]: [u64; 4]) -> Answer {
     let p = a * b * c * e;
     let snap = w / p;
-    Answer::Planned {
-        a,
-        b,
-        c,
-        e,
+    let (intervals, shortfall) = ([a, b, c, e], w - snap * p);
+    Answer::Planned(Plan {
+        intervals,
         snap,
-        shortfall: w - snap * p,
-    }
+        shortfall,
+    })
 }

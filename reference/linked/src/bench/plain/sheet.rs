@@ -78,26 +78,19 @@ fn move_line(number: u64, motion: &Move, out: &mut Output) {
     out.put_number("move ", number);
     match plan_narrow(motion) {
         Answer::Refused(refusal) => out.put_number(" refused ", refusal.into()),
-        Answer::Planned {
-            a,
-            b,
-            c,
-            e,
-            snap,
-            shortfall,
-        } => {
-            let [p, q, r, s] = durations([a, b, c, e]);
+        Answer::Planned(plan) => {
+            let [p, q, r, s] = durations(plan.intervals);
             let snap_word = match motion.displacement {
                 ..0 => " snap -",
                 _ => " snap ",
             };
-            out.put_number(" n ", a + b + c + e);
+            out.put_number(" n ", plan.samples());
             out.put_number(" p ", p);
             out.put_number(" q ", q);
             out.put_number(" r ", r);
             out.put_number(" s ", s);
-            out.put_number(snap_word, snap);
-            out.put_number(" short ", shortfall);
+            out.put_number(snap_word, plan.snap);
+            out.put_number(" short ", plan.shortfall);
         }
     }
     out.put(b"\n");

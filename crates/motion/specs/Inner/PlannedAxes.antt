@@ -1,0 +1,20 @@
+-- What the functions below the one-sample entry of a set need, and what they give.
+use mathlib.Core.Bool.{true, false}
+use mathlib.Core.Path.{_≡_}
+use Prim.Native.Nat.{ℕ, _≤_}
+use Rattle.planner.specs.Outcome.{intervalsIn}
+use Rattle.planner.specs.Axes.{atRest}
+use Rattle.planner.specs.declared.Move.{Move}
+use Rattle.planner.specs.declared.Plan.{Plan}
+use Rattle.motion.specs.Axes.{restSample}
+use Rattle.motion.specs.Inner.Planned.{PlanInRange, samplesIn, IsSample}
+use Rattle.motion.specs.declared.Sample.{Sample}
+
+-- A moving axis has a plan with a sample k.
+pub record AxisInRange (m : Move) (x : Plan) (k : ℕ) : Type 0 where
+  pub plan : atRest m ≡ false → PlanInRange x
+  pub sample : atRest m ≡ false → k ≤ samplesIn x
+
+pub record IsAxisSample (m : Move) (x : Plan) (k : ℕ) (r : Sample) : Type 0 where
+  pub moving : atRest m ≡ false → IsSample (m .displacement) (intervalsIn x) (x .snap) k r
+  pub resting : atRest m ≡ true → r ≡ restSample

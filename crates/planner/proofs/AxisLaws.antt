@@ -1,0 +1,101 @@
+-- Laws of one axis: at rest its bounds alone are asked, and else its move.
+use borrow.Author.Tests.{eq-eqb, ne-eqb, eqb-true, eqb-false}
+use mathlib.Core.Bool.{Bool, true, false, cond}
+use mathlib.Core.Path.{_≡_, refl, sym, ap, ap₂, subst, _∙_}
+use Prim.Native.Nat.{ℕ, _≤_}
+use native.Mathlib.Nat.{pos-of-ne-zero}
+use native.Mathlib.Omega.{arith}
+use lib.IntN.{natAbs}
+use Rattle.planner.specs.Intervals.{N}
+use Rattle.planner.specs.Result.{refused, given, Each, firstRefusal}
+use Rattle.planner.specs.Outcome.{mostSamples, intervalsIn, samplesOf}
+use Rattle.planner.specs.Axes.{restPlan, atRest, axisChecks, ownSamples}
+use Rattle.planner.specs.AxesClaims.{Moving, Resting, AcceptedAxis}
+use Rattle.planner.specs.Inner.Undivided.{undividedResult, boundsResult}
+use Rattle.planner.specs.Inner.AxisAnswers.{undividedAxis, axisResult}
+use Rattle.planner.specs.declared.Move.{Move}
+use Rattle.planner.specs.declared.Plan.{Plan}
+use Rattle.planner.proofs.RefusalLaws.{Passes, passed, passed-same, all-pass, same-refusal, bounds-in-range, bounds-pass}
+use Rattle.planner.proofs.UndividedChecks.{ownBounds, boundsOf}
+use Rattle.planner.proofs.Acceptance.{passed-accepted, accepted-passes}
+
+-- one of two, by a test
+either : {P : Type 0} (t : Bool) → (t ≡ true → P) → (t ≡ false → P) → P
+either true yes-case no-case = yes-case refl
+either false yes-case no-case = no-case refl
+
+abbrev taken : Plan → ℕ
+taken x = N (intervalsIn x)
+
+module _ {A : Type 0} {t : Bool} (x y : A) where
+  pub chosen : t ≡ true → cond t x y ≡ x
+  chosen h = ap (λ (t : Bool). cond t x y) h
+
+  pub not-chosen : t ≡ false → cond t x y ≡ y
+  not-chosen h = ap (λ (t : Bool). cond t x y) h
+
+module _ (m : Move) where
+  pub by-rest : {P : Type 0} → (atRest m ≡ true → P) → (atRest m ≡ false → P) → P
+  by-rest = either (atRest m)
+
+  pub rest-resting : atRest m ≡ true → Resting m
+  rest-resting = eqb-true _ 0
+
+  pub rest-moving : atRest m ≡ false → Moving m
+  rest-moving h = pos-of-ne-zero (eqb-false _ 0 h)
+
+  pub moving-rest : Moving m → atRest m ≡ false
+  moving-rest h = ne-eqb (natAbs (m .displacement)) 0 (λ q. omega (arith, h, q))
+
+  -- the checks of an axis that is accepted pass, and the other way round
+  pub passed-axis : Each Passes (axisChecks m) → AcceptedAxis m
+  passed-axis p =
+      record {
+        moving = λ h. passed-accepted m (subst (Each Passes) (not-chosen _ _ (moving-rest h)) p);
+        resting = λ h. bounds-in-range (subst (Each Passes) (chosen _ _ (eq-eqb _ _ h)) p);
+      }
+
+  pub axis-passes : AcceptedAxis m → Each Passes (axisChecks m)
+  axis-passes h =
+      by-rest
+      (λ q. subst (Each Passes) (sym (chosen _ _ q)) (bounds-pass (h .resting (rest-resting q))))
+      (λ q. subst (Each Passes) (sym (not-chosen _ _ q)) (accepted-passes m (h .moving (rest-moving q))))
+
+  -- what `undivided_axis` answers
+  resting-is : atRest m ≡ true → axisResult m ≡ firstRefusal (ownBounds m) (given restPlan)
+  unfolding axisResult
+  resting-is h = ap₂ (λ xs t. firstRefusal xs (given t)) (chosen _ _ h) (chosen _ _ h)
+
+  pub moving-is : atRest m ≡ false → axisResult m ≡ undividedResult m
+  unfolding undividedResult axisResult
+  moving-is h = ap₂ (λ xs t. firstRefusal xs (given t)) (not-chosen _ _ h) (not-chosen _ _ h)
+
+  pub resting-refused : (n : ℕ) → atRest m ≡ true → refused n ≡ boundsOf m → refused n ≡ axisResult m
+  unfolding boundsResult
+  resting-refused n h q = sym (resting-is h ∙ same-refusal (ownBounds m) tt _ n (sym q))
+
+  pub resting-found : atRest m ≡ true → given tt ≡ boundsOf m → given restPlan ≡ axisResult m
+  unfolding boundsResult
+  resting-found h q = sym (resting-is h ∙ all-pass (ownBounds m) _ (passed (ownBounds m) _ _ (sym q)))
+
+  pub own-is : N (intervalsIn (undividedAxis m)) ≡ ownSamples m
+  unfolding samplesOf
+  own-is = by-rest (λ q. ap taken (chosen _ _ q) ∙ sym (chosen _ _ q)) (λ q. ap taken (not-chosen _ _ q) ∙ sym (not-chosen _ _ q))
+
+  pub own-most : AcceptedAxis m → ownSamples m ≤ mostSamples
+  own-most h =
+      by-rest (λ q. subst (λ (n : ℕ). n ≤ mostSamples) (sym (chosen _ _ q)) (omega arith))
+      (λ q. subst (λ (n : ℕ). n ≤ mostSamples) (sym (not-chosen _ _ q)) (h .moving (rest-moving q) .short-enough))
+
+  -- what follows where it was not refused
+  module _ {x : Plan} (h : given x ≡ axisResult m) where
+    pub axis-accepted : AcceptedAxis m
+    unfolding axisResult
+    axis-accepted = passed-axis (passed (axisChecks m) _ _ (sym h))
+
+    pub axis-found : x ≡ undividedAxis m
+    unfolding axisResult
+    axis-found = sym (passed-same (axisChecks m) _ _ (sym h))
+
+    pub found-samples : N (intervalsIn x) ≤ mostSamples
+    found-samples = subst (λ (n : ℕ). n ≤ mostSamples) (sym (ap taken axis-found ∙ own-is)) (own-most axis-accepted)

@@ -1,0 +1,24 @@
+-- A property of every element of a list, taken apart and put together.
+use mathlib.Core.List.{List, [], _∷_, _++_}
+use Prim.Native.Nat.{ℕ, zero, suc, _<_}
+use native.Mathlib.Omega.{arith}
+use lib.ListN.{length, getD}
+use Rattle.planner.specs.Result.{Each}
+
+module _ {A : Type 0} (P : A → Type 0) where
+  pub each-joined : (xs ys : List A) → Each P xs → Each P ys → Each P (xs ++ ys)
+  each-joined [] ys p q = q
+  each-joined (x ∷ xs) ys p q = (p .0, each-joined xs ys (p .1) q)
+
+  pub each-parts : (xs ys : List A) → Each P (xs ++ ys) → Each P xs × Each P ys
+  each-parts [] ys p = (tt, p)
+  each-parts (x ∷ xs) ys p = let q = each-parts xs ys (p .1) in ((p .0, q .0), q .1)
+
+  pub each-at : (xs : List A) (i : ℕ) (d : A) → i < length xs → Each P xs → P (getD xs i d)
+  each-at [] i d l h = absurd (omega arith)
+  each-at (x ∷ xs) zero d l h = h .0
+  each-at (x ∷ xs) (suc i) d l h = each-at xs i d (omega arith) (h .1)
+
+  pub each-from : (xs : List A) (d : A) → ((i : ℕ) → i < length xs → P (getD xs i d)) → Each P xs
+  each-from [] d h = tt
+  each-from (x ∷ xs) d h = (h 0 (omega arith), each-from xs d (λ i l. h (suc i) (omega arith)))

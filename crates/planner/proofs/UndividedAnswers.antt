@@ -1,0 +1,33 @@
+-- What follows where a plan was found but for its D, and where it was refused.
+use mathlib.Core.Path.{_≡_, sym, ap, subst, _∙_}
+use Prim.Native.Nat.{ℕ}
+use Rattle.planner.specs.Result.{refused, given}
+use Rattle.planner.specs.Outcome.{checks, distanceOf, intervalsOf, intervalsIn, samplesOf, planOf, outcomeOf}
+use Rattle.planner.specs.Claims.{Accepted}
+use Rattle.planner.specs.Inner.Undivided.{undivided, undividedResult, Divisible}
+use Rattle.planner.specs.declared.Move.{Move}
+use Rattle.planner.specs.declared.Plan.{Plan}
+use Rattle.planner.proofs.RefusalLaws.{passed, passed-same, same-refusal}
+use Rattle.planner.proofs.Acceptance.{passed-accepted, accepted-outcome}
+use Rattle.planner.proofs.PlannedFacts.{rule-ordered}
+
+module _ (m : Move) where
+  module _ {x : Plan} (h : given x ≡ undividedResult m) where
+    found-is : x ≡ undivided (distanceOf m) (intervalsOf m)
+    unfolding undividedResult
+    found-is = sym (passed-same (checks m) _ _ (sym h))
+
+    found-accepted : Accepted m
+    unfolding undividedResult
+    found-accepted = passed-accepted m (passed (checks m) _ _ (sym h))
+
+    pub found-divisible : Divisible x
+    unfolding samplesOf
+    found-divisible = subst Divisible (sym found-is) (record { ordered = rule-ordered m; samples = found-accepted .short-enough })
+
+    pub found-outcome : given (planOf (x .shortfall) (intervalsIn x)) ≡ outcomeOf m
+    found-outcome = ap (λ (x : Plan). given (planOf (x .shortfall) (intervalsIn x))) found-is ∙ sym (accepted-outcome m found-accepted)
+
+  pub refused-outcome : (n : ℕ) → refused n ≡ undividedResult m → refused n ≡ outcomeOf m
+  unfolding undividedResult outcomeOf
+  refused-outcome n h = sym (same-refusal (checks m) _ _ n (sym h))

@@ -1,0 +1,41 @@
+-- A plan whose D is still to be found: all of W is short. And what the private functions answer of it.
+use mathlib.Core.List.{[], _∷_}
+use Prim.Native.Nat.{ℕ, _≤_}
+use lib.Dec.{ltb}
+use lib.IntN.{ℤ}
+use Rattle.planner.specs.Intervals.{Intervals, N, intervalsBy}
+use Rattle.planner.specs.Result.{Result, refused, given, check, firstRefusal}
+use Rattle.planner.specs.Outcome.{mostSamples, boundChecks, checks, distanceOf, intervalsOf, intervalsIn, number}
+use Rattle.planner.specs.Inner.Facts.{Ordered}
+use Rattle.planner.specs.declared.Move.{Move}
+use Rattle.planner.specs.declared.Plan.{Plan}
+use Rattle.planner.specs.declared.bounds.BoundsAnswer.{BoundsAnswer}
+use Rattle.planner.specs.declared.bounds.BoundsAnswer.the-variants.{InRange, Refused}
+
+abbrev pub undivided : (W : ℕ) (t : Intervals) → Plan
+undivided W t = record { a = t .a; b = t .b; c = t .c; e = t .e; snap = 0; shortfall = W }
+
+-- The move of five numbers.
+abbrev pub moveOf : (X : ℤ) (V₀ A₀ J₀ S₀ : ℕ) → Move
+moveOf X V₀ A₀ J₀ S₀ = record { displacement = X; velocity = V₀; acceleration = A₀; jerk = J₀; snap = S₀ }
+
+-- No product of its intervals leaves 64 bits.
+pub record Divisible (x : Plan) : Type 0 where
+  pub ordered : Ordered (intervalsIn x)
+  pub samples : N (intervalsIn x) ≤ mostSamples
+
+unfoldable pub undividedResult : Move → Result ℕ Plan
+undividedResult m = firstRefusal (checks m) (given (undivided (distanceOf m) (intervalsOf m)))
+
+-- What is left of it where refusals 1 to 6 do not apply.
+unfoldable pub undividedWithin : (W V₀ A₀ J₀ S₀ : ℕ) → Result ℕ Plan
+undividedWithin W V₀ A₀ J₀ S₀ =
+    let t = intervalsBy W V₀ A₀ J₀ S₀ in
+    firstRefusal (check 7 (ltb mostSamples (N t)) ∷ []) (given (undivided W t))
+
+abbrev pub boundsOutcome : BoundsAnswer → Result ℕ (Unit {0})
+boundsOutcome InRange = given tt
+boundsOutcome (Refused x) = refused (number x)
+
+unfoldable pub boundsResult : (V₀ A₀ J₀ S₀ : ℕ) → Result ℕ (Unit {0})
+boundsResult V₀ A₀ J₀ S₀ = firstRefusal (boundChecks V₀ A₀ J₀ S₀) (given tt)

@@ -1,0 +1,38 @@
+// Refusals 3 to 6: the bounds of a move.
+use crate::Refusal;
+ghost use mathlib.Core.Path.{_≡_};
+ghost use Rattle.planner.specs.Outcome.{outOfRange};
+ghost use Rattle.planner.specs.Inner.Undivided.{boundsOutcome, boundsResult};
+
+// The largest bound that may be sent.
+const MOST_BOUND: u64 = 1_125_899_906_842_624;
+
+fn out_of_range(x: u64) -> bool
+    ensures { λ r. ⌜ r ≡ outOfRange x ⌝ }
+{
+    if x == 0 { true } else { MOST_BOUND < x }
+}
+
+pub(crate) enum BoundsAnswer {
+    InRange,
+    Refused(Refusal),
+}
+
+// Refusals 3 to 6.
+pub(crate) fn check_bounds(v: u64, acc: u64, j: u64, s: u64) -> BoundsAnswer
+    ensures { λ r. ⌜ boundsOutcome r ≡ boundsResult v acc j s ⌝ }
+{
+    if out_of_range(v) {
+        return BoundsAnswer::Refused(Refusal::VelocityRange);
+    }
+    if out_of_range(acc) {
+        return BoundsAnswer::Refused(Refusal::AccelerationRange);
+    }
+    if out_of_range(j) {
+        return BoundsAnswer::Refused(Refusal::JerkRange);
+    }
+    if out_of_range(s) {
+        return BoundsAnswer::Refused(Refusal::SnapRange);
+    }
+    BoundsAnswer::InRange
+}

@@ -1,0 +1,81 @@
+//! Sets of axes: about half are accepted.
+
+use super::moves::{self, BOUND_EDGES};
+use super::Random;
+use crate::planner::{plan, plan_axis, Axes, Move, MOST_AXES};
+
+/// Counts that are refused; cut to 8, 32 or 63 bits some would not be.
+pub const WRONG_COUNTS: [u64; 6] = [0, 9, (1 << 8) + 3, (1 << 32) + 3, (1 << 63) + 3, u64::MAX];
+
+/// Any set.
+pub fn any(random: &mut Random) -> Axes {
+    let mut count = random.between(1, MOST_AXES as u64);
+    let mut moves = [0; MOST_AXES].map(|_| accepted(random));
+    let (read, unread) = moves.split_at_mut(count as usize);
+    match random.below(3) {
+        0 => unread.fill(Move::new(0, [0; 4])),
+        1 => unread.fill_with(|| refused(random)),
+        _ => {}
+    }
+    match random.below(12) {
+        0 => read.fill_with(|| at_rest(random)),
+        1..=3 => {
+            for _ in 0..random.between(1, 2) {
+                read[random.below(count) as usize] = refused(random);
+            }
+        }
+        4 | 5 => equal_lengths(read, random),
+        _ => {}
+    }
+    if random.once_in(10) {
+        count = random.pick(&WRONG_COUNTS);
+    }
+    Axes { count, moves }
+}
+
+/// An axis that its set accepts.
+fn accepted(random: &mut Random) -> Move {
+    let motion = moves::planned(random);
+    match random.below(6) {
+        0 => Move::new(0, motion.bounds()),
+        1 => Move::new(0, [0; 4].map(|_| random.pick(&[1, 1 << 50]))),
+        _ => motion,
+    }
+}
+
+/// An axis at rest, often with a bound out of range.
+fn at_rest(random: &mut Random) -> Move {
+    let mut bounds = accepted(random).bounds();
+    let (edge, _) = random.pick(&BOUND_EDGES);
+    bounds[random.below(4) as usize] = edge;
+    Move::new(0, bounds)
+}
+
+/// An axis that refuses its set.
+fn refused(random: &mut Random) -> Move {
+    loop {
+        let motion = match random.below(3) {
+            0 => at_rest(random),
+            _ => moves::any(random),
+        };
+        if plan_axis(&motion).is_err() {
+            return motion;
+        }
+    }
+}
+
+/// Gives some of the moving axes the length of the first one, and another shape.
+fn equal_lengths(axes: &mut [Move], random: &mut Random) {
+    let Some(n) = axes.iter().find_map(|motion| plan(motion).samples()) else {
+        return;
+    };
+    for axis in axes.iter_mut().filter(|axis| axis.displacement != 0) {
+        let other = moves::of_samples(n, [0; 3].map(|_| random.below(9)));
+        if plan(&other).samples() == Some(n) {
+            *axis = Move::new(
+                other.displacement * axis.displacement.signum(),
+                other.bounds(),
+            );
+        }
+    }
+}
