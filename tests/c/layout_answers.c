@@ -1,25 +1,13 @@
 /* Where the library writes each field of a plan, a sample and a table's answer. */
 #include "wanted.h"
 
-static void plan_twice(areas *both, raw_move move) {
-  clear_areas(both);
-  nitswolan_plan_move(both->first + GUARD / 8, move);
-  nitswolan_plan_move(both->second + GUARD / 8, move);
-}
-
-static void sample_twice(areas *both, raw_move move, uint64_t sample) {
-  clear_areas(both);
-  nitswolan_sample_move(both->first + GUARD / 8, move, sample);
-  nitswolan_sample_move(both->second + GUARD / 8, move, sample);
-}
-
 static void check_plan(checks *tally, areas *both) {
-  plan_twice(both, sixth_move());
+  CALL_TWICE(both, nitswolan_plan_move, sixth_move());
   check_extent(tally, "bytes of a plan", both, PLAN_RESULT_SIZE);
   check(tally, "plan.refusal", word(both, PLAN_RESULT_REFUSAL), 0);
   check(tally, "plan.samples", word(both, PLAN_RESULT_SAMPLES), 18);
   check_plan_at(tally, both, PLAN_RESULT_PLAN, sixth_plan());
-  plan_twice(both, (raw_move){{1, 1, 1, 1, 1}});
+  CALL_TWICE(both, nitswolan_plan_move, (raw_move){{1, 1, 1, 1, 1}});
   check_extent(tally, "bytes of a refused plan", both, PLAN_RESULT_SIZE);
   check(tally, "plan.refusal", word(both, PLAN_RESULT_REFUSAL), 7);
   check_zeros(tally, "the rest of a refused plan", both, PLAN_RESULT_SAMPLES, PLAN_RESULT_SIZE);
@@ -32,13 +20,13 @@ static void check_samples(checks *tally, areas *both) {
   backward.words[MOVE_DISPLACEMENT / 8] = (uint64_t)INT64_C(-96);
   for (uint64_t k = 0; k < 19; k++) {
     at.snap = -sixth_signs[k] * (int64_t)sixth_plan().snap;
-    sample_twice(both, backward, k);
+    CALL_TWICE(both, nitswolan_sample_move, backward, k);
     check_extent(tally, "bytes of a sample", both, SAMPLE_RESULT_SIZE);
     check(tally, "sample.refusal", word(both, SAMPLE_RESULT_REFUSAL), 0);
     check_sample_at(tally, both, SAMPLE_RESULT_SAMPLE, at);
     step(&at);
   }
-  sample_twice(both, backward, 19);
+  CALL_TWICE(both, nitswolan_sample_move, backward, 19);
   check(tally, "sample.refusal", word(both, SAMPLE_RESULT_REFUSAL), 9);
 }
 

@@ -3,18 +3,6 @@
 
 enum { SAMPLES = 18 };
 
-static void plan_twice(areas *both, raw_axes axes) {
-  clear_areas(both);
-  nitswolan_plan_axes(both->first + GUARD / 8, axes);
-  nitswolan_plan_axes(both->second + GUARD / 8, axes);
-}
-
-static void sample_twice(areas *both, raw_axes axes, uint64_t sample) {
-  clear_areas(both);
-  nitswolan_sample_axes(both->first + GUARD / 8, axes, sample);
-  nitswolan_sample_axes(both->second + GUARD / 8, axes, sample);
-}
-
 /* Eight axes: the sixth move to check by at one place, and at each other place k, from 0, a move of -k counts; so that at place 0 is at
  * rest. These need 8 to 11 samples alone. */
 static raw_axes eight_axes(size_t sixth) {
@@ -40,7 +28,7 @@ static int64_t snap_at(size_t k, size_t sixth, uint64_t sample) {
 }
 
 static void check_plans(checks *tally, areas *both, size_t sixth) {
-  plan_twice(both, eight_axes(sixth));
+  CALL_TWICE(both, nitswolan_plan_axes, eight_axes(sixth));
   check_extent(tally, "bytes of the plans of a set", both, AXES_PLAN_SIZE);
   check(tally, "plans.refusal", word(both, AXES_PLAN_REFUSAL), 0);
   check(tally, "plans.place", word(both, AXES_PLAN_PLACE), 0);
@@ -53,7 +41,7 @@ static void check_plans(checks *tally, areas *both, size_t sixth) {
 static void check_samples(checks *tally, areas *both, size_t sixth) {
   wanted_sample at[MOST_AXES] = {{0, 0, 0, 0, 0}};
   for (uint64_t sample = 0; sample <= SAMPLES; sample++) {
-    sample_twice(both, eight_axes(sixth), sample);
+    CALL_TWICE(both, nitswolan_sample_axes, eight_axes(sixth), sample);
     check_extent(tally, "bytes of the samples of a set", both, AXES_SAMPLE_SIZE);
     check(tally, "samples.refusal", word(both, AXES_SAMPLE_REFUSAL), 0);
     check(tally, "samples.place", word(both, AXES_SAMPLE_PLACE), 0);
@@ -67,12 +55,12 @@ static void check_samples(checks *tally, areas *both, size_t sixth) {
 
 /* A set that is refused, by its plans and at sample 0. */
 static void check_refusal(checks *tally, areas *both, raw_axes axes, uint64_t refusal, uint64_t place) {
-  plan_twice(both, axes);
+  CALL_TWICE(both, nitswolan_plan_axes, axes);
   check_extent(tally, "bytes of refused plans", both, AXES_PLAN_SIZE);
   check(tally, "plans.refusal", word(both, AXES_PLAN_REFUSAL), refusal);
   check(tally, "plans.place", word(both, AXES_PLAN_PLACE), place);
   check_zeros(tally, "the rest of refused plans", both, AXES_PLAN_SAMPLES, AXES_PLAN_SIZE);
-  sample_twice(both, axes, 0);
+  CALL_TWICE(both, nitswolan_sample_axes, axes, 0);
   check_extent(tally, "bytes of refused samples", both, AXES_SAMPLE_SIZE);
   check(tally, "samples.refusal", word(both, AXES_SAMPLE_REFUSAL), refusal);
   check(tally, "samples.place", word(both, AXES_SAMPLE_PLACE), place);
@@ -132,17 +120,17 @@ static void check_few(checks *tally, areas *both, size_t count, raw_move later) 
   for (size_t k = count; k < MOST_AXES; k++) {
     set_axis(&axes, k, later);
   }
-  plan_twice(both, axes);
+  CALL_TWICE(both, nitswolan_plan_axes, axes);
   check_extent(tally, "bytes of a few plans", both, AXES_PLAN_SIZE);
   check(tally, "plans.refusal", word(both, AXES_PLAN_REFUSAL), 0);
   check(tally, "plans.samples", word(both, AXES_PLAN_SAMPLES), SAMPLES);
   check_plan_at(tally, both, AXES_PLAN_PLANS, sixth_plan());
   check_zeros(tally, "plans after the count", both, AXES_PLAN_PLANS + count * PLAN_SIZE, AXES_PLAN_SIZE);
-  sample_twice(both, axes, SAMPLES / 2);
+  CALL_TWICE(both, nitswolan_sample_axes, axes, SAMPLES / 2);
   check_extent(tally, "bytes of a few samples", both, AXES_SAMPLE_SIZE);
   check(tally, "samples.refusal", word(both, AXES_SAMPLE_REFUSAL), 0);
   check_zeros(tally, "samples after the count", both, AXES_SAMPLE_VALUES + count * SAMPLE_SIZE, AXES_SAMPLE_SIZE);
-  sample_twice(both, axes, SAMPLES + 1);
+  CALL_TWICE(both, nitswolan_sample_axes, axes, SAMPLES + 1);
   check(tally, "samples.refusal", word(both, AXES_SAMPLE_REFUSAL), 9);
   check_zeros(tally, "the rest past the end", both, AXES_SAMPLE_PLACE, AXES_SAMPLE_SIZE);
 }

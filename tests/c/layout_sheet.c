@@ -3,12 +3,6 @@
 #include "raw_entries.h"
 #include "written.h"
 
-static void read_twice(areas *both, const char *text) {
-  clear_areas(both);
-  nitswolan_read_sheet(both->first + GUARD / 8, (const uint8_t *)text, strlen(text));
-  nitswolan_read_sheet(both->second + GUARD / 8, (const uint8_t *)text, strlen(text));
-}
-
 /* A sheet with every set and every move, each number different from its neighbours. */
 static void full_sheet(char *text) {
   text += sprintf(text, "%d\n", MOST_SETS);
@@ -42,7 +36,7 @@ static void check_listed(checks *tally, const areas *both) {
 
 static void check_sheet_refusal(checks *tally, areas *both, char *text) {
   text[strlen(text) - 1] = 'x';
-  read_twice(both, text);
+  CALL_TWICE(both, nitswolan_read_sheet, (const uint8_t *)text, strlen(text));
   check_extent(tally, "bytes of a refused sheet", both, SHEET_SIZE);
   check(tally, "sheet.refusal", word(both, SHEET_REFUSAL), 11);
   check(tally, "sheet.line", word(both, SHEET_LINE), 274);
@@ -53,7 +47,7 @@ void check_sheets(checks *tally) {
   areas both;
   char text[8192];
   full_sheet(text);
-  read_twice(&both, text);
+  CALL_TWICE(&both, nitswolan_read_sheet, (const uint8_t *)text, strlen(text));
   check_extent(tally, "bytes of a sheet", &both, SHEET_SIZE);
   check_listed(tally, &both);
   check_sheet_refusal(tally, &both, text);

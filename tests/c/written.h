@@ -20,6 +20,14 @@ static inline void clear_areas(areas *both) {
   memset(both->second, 0xAA, sizeof both->second);
 }
 
+/* Calls an entry for two answers, one in each area. After the entry come the arguments that it has besides. */
+#define CALL_TWICE(both, entry, ...)                \
+  do {                                              \
+    clear_areas(both);                              \
+    entry((both)->first + GUARD / 8, __VA_ARGS__);  \
+    entry((both)->second + GUARD / 8, __VA_ARGS__); \
+  } while (0)
+
 /* The bytes written must be those from the guard on, `size` of them. */
 static inline void check_extent(checks *tally, const char *what, const areas *both, size_t size) {
   const unsigned char *first = (const unsigned char *)both->first;

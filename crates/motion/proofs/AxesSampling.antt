@@ -14,9 +14,8 @@ use Rattle.planner.proofs.PaddedLaws.{padded-at}
 use Rattle.motion.specs.Sampling.{sampleOf}
 use Rattle.motion.specs.Axes.{restSample, axisValues, axesSampleResult, SamplesPlaced, SamplesAxes}
 use Rattle.motion.specs.declared.Sample.{Sample}
-use Rattle.motion.proofs.CountLaws.{one-count}
 use Rattle.motion.proofs.RoundingLaws.{count-of}
-use Rattle.motion.proofs.AxisSampling.{axisRow}
+use Rattle.motion.proofs.AxisSampling.{axisRow, row-of}
 
 module _ (count : ℕ) (moves : List Move) where
   abbrev axes : List Move
@@ -74,4 +73,4 @@ module _ (count : ℕ) (moves : List Move) where
           let row : Move → Sample = λ m. let v = axisValues (commonSamples axes) m k in sampleOf v (x .countOf (v .position)) in
           ap (λ (l : List Sample). getD l i restSample) (x .samples-are ∙ ap (axesPlaces count moves restSample row) (sym (result-given l)))
           ∙ padded-at row mostAxes restSample axes restSample d i within
-          ∙ ap (sampleOf (axisValues (commonSamples axes) (getD axes i d) k)) (one-count _ _ _ (x .count-is _) (count-of _ .is))
+          ∙ row-of (commonSamples axes) (getD axes i d) k refl _ (x .count-is _)

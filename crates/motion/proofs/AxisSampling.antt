@@ -1,10 +1,10 @@
 -- One axis of a set: what its sample needs of the plan, and that it is the rule's row.
-use mathlib.Core.Bool.{true, false, cond}
+use mathlib.Core.Bool.{Bool, true, false, cond}
 use mathlib.Core.Path.{_≡_, sym, ap, ap₂, subst, _∙_}
 use mathlib.Core.List.{List}
 use Prim.Native.Nat.{ℕ, _≤_, _<_}
 use native.Mathlib.Omega.{arith}
-use lib.IntN.{pos}
+use lib.IntN.{ℤ, pos}
 use lib.ListN.{length, getD}
 use Rattle.planner.specs.Intervals.{Intervals, N, D}
 use Rattle.planner.specs.Result.{Each}
@@ -13,7 +13,7 @@ use Rattle.planner.specs.Axes.{raised, atRest, axisPlan, commonSamples}
 use Rattle.planner.specs.AxesClaims.{AcceptedAxis}
 use Rattle.planner.specs.declared.Move.{Move}
 use Rattle.planner.specs.declared.Plan.{Plan}
-use Rattle.planner.proofs.AxisLaws.{by-rest, chosen, not-chosen}
+use Rattle.planner.proofs.AxisLaws.{by-rest, chosen}
 use Rattle.planner.proofs.RaisedLaws.{raised-axis, raised-axis-samples, moving-plan}
 use Rattle.motion.specs.Sampling.{Values, valuesAt, sampleOf, IsCount}
 use Rattle.motion.specs.Axes.{restValues, restSample, axisValues, axisExact}
@@ -24,49 +24,37 @@ use Rattle.motion.proofs.CountLaws.{one-count, count-positive}
 use Rattle.motion.proofs.RoundingLaws.{count-of}
 use Rattle.motion.proofs.EntryLaws.{within-range}
 
--- the exact profile of an axis
-module _ (n : ℕ) (m : Move) where
-  abbrev pub raisedIntervals : Intervals
-  raisedIntervals = raised n (intervalsOf m)
-
-  pub resting-exact : atRest m ≡ true → axisExact n m ≡ (λ k. pos 0)
-  unfolding axisExact
-  resting-exact h = λ i k. cond (h i) (pos 0) (valuesAt (m .displacement) raisedIntervals (distanceOf m) k .position)
-
-  pub moving-exact : atRest m ≡ false → axisExact n m ≡ (λ k. valuesAt (m .displacement) raisedIntervals (distanceOf m) k .position)
-  unfolding axisExact
-  moving-exact h = λ i k. cond (h i) (pos 0) (valuesAt (m .displacement) raisedIntervals (distanceOf m) k .position)
-
--- its values and its row at sample k
-module _ (n : ℕ) (m : Move) (k : ℕ) where
-  pub resting-values : atRest m ≡ true → axisValues n m k ≡ restValues
-  unfolding axisValues
-  resting-values h = chosen _ _ h
-
+-- an axis by the test whether it is at rest: its exact profile, and its values
+module _ (n : ℕ) (m : Move) {rests : Bool} (h : atRest m ≡ rests) where
   abbrev t : Intervals
-  t = raisedIntervals n m
+  t = raised n (intervalsOf m)
 
-  pub moving-values : atRest m ≡ false → axisValues n m k ≡ valuesAt (m .displacement) t (D t (distanceOf m)) k
+  pub exact-by : axisExact n m ≡ (λ k. cond rests (pos 0) (valuesAt (m .displacement) t (distanceOf m) k .position))
+  unfolding axisExact
+  exact-by = λ i k. cond (h i) (pos 0) (valuesAt (m .displacement) t (distanceOf m) k .position)
+
+  pub values-by : (k : ℕ) → axisValues n m k ≡ cond rests restValues (valuesAt (m .displacement) t (D t (distanceOf m)) k)
   unfolding axisValues
-  moving-values h = not-chosen _ _ h
+  values-by k = chosen _ _ h
 
-  -- the rule's row, with the count that every position has
+-- its row at sample k
+module _ (n : ℕ) (m : Move) (k : ℕ) where
+  -- the rule's, with the count that every position has
   abbrev pub axisRow : Sample
   axisRow = sampleOf (axisValues n m k) (count-of (axisValues n m k .position) .count)
 
+  -- there is no other count, so its values with a count are its row
+  pub row-of : {v : Values} → v ≡ axisValues n m k → (c : ℤ) → IsCount (v .position) c → sampleOf v c ≡ axisRow
+  row-of q c is = ap₂ sampleOf q (one-count _ _ _ (subst (λ (v : Values). IsCount (v .position) c) q is) (count-of _ .is))
+
   pub resting-row : atRest m ≡ true → axisRow ≡ restSample
-  resting-row h =
-      ap (λ (v : Values). sampleOf v (count-of (v .position) .count)) (resting-values h)
-      ∙ ap (sampleOf restValues) (one-count (pos 0) _ _ (count-of (pos 0) .is) (count-positive 0 0 (omega arith) (λ q. omega arith)))
+  resting-row h = sym (row-of (sym (values-by n m h k)) (pos 0) (count-positive 0 0 (omega arith) (λ q. omega arith)))
 
   moving-row : {x : Plan} {r : Sample} → x ≡ axisPlan m n → atRest m ≡ false → IsSample (m .displacement) (intervalsIn x) (x .snap) k r
       → r ≡ axisRow
-  moving-row {x} {r} q h s =
-      let v : valuesAt (m .displacement) (intervalsIn x) (x .snap) k ≡ axisValues n m k =
-      ap (λ (x : Plan). valuesAt (m .displacement) (intervalsIn x) (x .snap) k) (q ∙ moving-plan m n h) ∙ sym (moving-values h) in
-      let count-is : IsCount (axisValues n m k .position) (r .count) = subst (λ (v : Values). IsCount (v .position) (r .count)) v
-      (s .count-is) in
-      s .sample-is ∙ ap₂ sampleOf v (one-count _ _ _ count-is (count-of (axisValues n m k .position) .is))
+  moving-row {r = r} q h s =
+      let planned = ap (λ (x : Plan). valuesAt (m .displacement) (intervalsIn x) (x .snap) k) (q ∙ moving-plan m n h) in
+      s .sample-is ∙ row-of (planned ∙ sym (values-by n m h k)) (r .count) (s .count-is)
 
   pub is-row : {x : Plan} {r : Sample} → x ≡ axisPlan m n → IsAxisSample m x k r → r ≡ axisRow
   is-row q s = by-rest m (λ h. s .resting h ∙ sym (resting-row h)) (λ h. moving-row q h (s .moving h))

@@ -27,7 +27,7 @@ use Rattle.motion.specs.declared.Sample.{Sample}
 use Rattle.motion.proofs.RoundingLaws.{count-of}
 use Rattle.motion.proofs.KeptRules.{Keeps, keeps}
 use Rattle.motion.proofs.KeptLaws.{sampleAt, kept-snap, kept}
-use Rattle.motion.proofs.AxisSampling.{axisRow, resting-row, moving-values, resting-exact, moving-exact}
+use Rattle.motion.proofs.AxisSampling.{axisRow, resting-row, values-by, exact-by}
 use Rattle.motion.proofs.AxesSampling.{result-given, sampled-row}
 use Rattle.motion.proofs.RestAxis.{rest-kept-snap, rest-kept}
 
@@ -43,7 +43,7 @@ module _ (n : ℕ) (m : Move) where
   resting-kept h =
       let rests = rest-resting m h in
       let rows : row ≡ (λ k. restSample) = λ i k. resting-row n m k h i in
-      let exact = resting-exact n m h in
+      let exact = exact-by n m h in
       record {
         kept-snap = subst (KeptSnap m n) (sym rows) (rest-kept-snap m rests n);
         kept =
@@ -68,12 +68,12 @@ module _ (n : ℕ) (m : Move) where
 
     rows : row ≡ values
     unfolding count
-    rows = λ i k. sampleOf (moving-values n m k h i) (count-of (axisValues n m k .position) .count)
+    rows = λ i k. sampleOf (values-by n m h k i) (count-of (axisValues n m k .position) .count)
 
     count-is : (k : ℕ) → IsCount (valuesAt (m .displacement) t (D t (distanceOf m)) k .position) (count k)
     unfolding count
     count-is k =
-        subst (λ (v : Values). IsCount (v .position) (count-of (axisValues n m k .position) .count)) (moving-values n m k h)
+        subst (λ (v : Values). IsCount (v .position) (count-of (axisValues n m k .position) .count)) (values-by n m h k)
         (count-of (axisValues n m k .position) .is)
 
     moving-kept : KeptAxis n m row
@@ -82,7 +82,7 @@ module _ (n : ℕ) (m : Move) where
           kept-snap = subst (KeptSnap m n) (sym rows) (subst (λ (n : ℕ). KeptSnap m n values) last (kept-snap f count));
           kept =
               subst (Kept m n (P t) (axisExact n m)) (sym rows)
-              (subst (λ (E : ℕ → ℤ). Kept m n (P t) E values) (sym (moving-exact n m h))
+              (subst (λ (E : ℕ → ℤ). Kept m n (P t) E values) (sym (exact-by n m h))
               (subst (λ (n : ℕ). Kept m n (P t) exact values) last (kept f count count-is)));
           at-rest = λ q k. absurd (true≢false (sym (eq-eqb _ _ q) ∙ h));
         }

@@ -18,7 +18,7 @@ use Rattle.motion.specs.AxesClaims.{AxisExactProfileClaim}
 use Rattle.motion.specs.Demand3.{IsExactProfile, ExactProfileClaim}
 use Rattle.motion.proofs.IntegerLaws.{multiple-negated}
 use Rattle.motion.proofs.OrderedLaws.{at-end}
-use Rattle.motion.proofs.AxisSampling.{moving-exact}
+use Rattle.motion.proofs.AxisSampling.{exact-by}
 
 -- W times P in the direction of X
 whole-way : (X : ℤ) (n : ℕ) → along X (pos (distance X * n)) ≡ pos n *ℤ unitsOf X
@@ -43,4 +43,4 @@ exact-profile m = exact m (rule-ordered m)
 
 pub axis-exact-profile : AxisExactProfileClaim
 axis-exact-profile n m h =
-    subst (IsExactProfile m (raised n (intervalsOf m))) (sym (moving-exact n m (moving-rest m h))) (exact m (raised-ordered n m))
+    subst (IsExactProfile m (raised n (intervalsOf m))) (sym (exact-by n m (moving-rest m h))) (exact m (raised-ordered n m))

@@ -1,6 +1,6 @@
 -- A sample of a move alone is that of the set of one.
 use mathlib.Core.List.{List, [], _∷_}
-use mathlib.Core.Path.{_≡_, refl, sym, ap, ap₂, subst, _∙_}
+use mathlib.Core.Path.{_≡_, refl, sym, ap, subst, _∙_}
 use Prim.Native.Nat.{ℕ, _≤_, _<_}
 use native.Mathlib.Decide.{decLe}
 use native.Mathlib.Omega.{arith}
@@ -17,14 +17,13 @@ use Rattle.planner.specs.declared.Plan.{Plan}
 use Rattle.planner.proofs.Acceptance.{accepted-outcome, rule-accepted}
 use Rattle.planner.proofs.AxisLaws.{moving-rest}
 use Rattle.planner.proofs.SetOfOne.{raised-own, own-common, set-of-one}
-use Rattle.motion.specs.Sampling.{Values, valuesAt, valuesOf, sampleOf, sampleWith, IsCount}
+use Rattle.motion.specs.Sampling.{valuesAt, valuesOf, sampleOf, sampleWith, IsCount}
 use Rattle.motion.specs.Axes.{restSample, axisValues, SamplesAxes}
 use Rattle.motion.specs.AxesClaims.{SampleOfOneClaim}
 use Rattle.motion.specs.declared.Sample.{Sample}
-use Rattle.motion.proofs.CountLaws.{one-count}
 use Rattle.motion.proofs.RoundingLaws.{count-of}
 use Rattle.motion.proofs.EntryLaws.{refused-first, applies, passes}
-use Rattle.motion.proofs.AxisSampling.{axisRow, moving-values}
+use Rattle.motion.proofs.AxisSampling.{values-by, row-of}
 use Rattle.motion.proofs.AxesSampling.{samples-refused, samples-past, samples-given}
 
 module _ (m : Move) (k : ℕ) where
@@ -36,15 +35,8 @@ module _ (m : Move) (k : ℕ) where
       let own : raised (commonSamples (m ∷ [])) (intervalsOf m) ≡ intervalsOf m =
       ap (λ (n : ℕ). raised n (intervalsOf m)) (sym (own-common m moves)) ∙ raised-own (intervalsOf m) in
       sym
-      (moving-values (commonSamples (m ∷ [])) m k moves
+      (values-by (commonSamples (m ∷ [])) m moves k
       ∙ ap (λ (t : Intervals). valuesAt (m .displacement) t (D t (distanceOf m)) k) own)
-
-  same-row :
-      Accepted m → (c : ℤ) → IsCount (valuesOf m k .position) c
-      → sampleOf (valuesOf m k) c ≡ axisRow (commonSamples (m ∷ [])) m k
-  same-row h c is =
-      let v = same-values h in
-      ap₂ sampleOf v (one-count _ _ _ (subst (λ (v : Values). IsCount (v .position) c) v is) (count-of _ .is))
 
 module _ (m : Move) (others : List Move) (k : ℕ) where
   abbrev Alone : Result ℕ Sample → Type 0
@@ -69,7 +61,7 @@ module _ (m : Move) (others : List Move) (k : ℕ) where
         (record {
           countOf = λ x. count-of x .count;
           count-is = λ x. count-of x .is;
-          samples-are = ap (λ (x : Sample). padded mostAxes restSample (x ∷ [])) (same-row m k h c is);
+          samples-are = ap (λ (x : Sample). padded mostAxes restSample (x ∷ [])) (row-of (commonSamples (m ∷ [])) m k (same-values m k h) c is);
         })
 
     past : N (intervalsOf m) < k → Alone (refused 9)

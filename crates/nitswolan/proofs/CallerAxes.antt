@@ -115,15 +115,15 @@ caller-axes axes sent r a q sample promised =
     let p = planned a q .promised in
     let h = axes-acceptance (axes .count) (axes .moves) sent (given (r .samples)) (r .plans) p .0 tt in
     let n : r .samples ≡ commonSamples (take (axes .count) (axes .moves)) = planned-common (axes .count) (axes .moves) p in
+    let result = p .outcome-is in
     record {
       planned = planned a q .fields-are;
-      sampled = λ k l. own-fields (promised k l) (result-given (axes .count) (axes .moves) k (sym (accepted-axes-result (axes .count)
-          (axes .moves) sent h)) (le-trans l (le-of-eq n)));
+      sampled = λ k l. own-fields (promised k l) (result-given (axes .count) (axes .moves) k result l);
       demand-3 =
           demand-3-axes (axes .count) (axes .moves) sent h (given (r .samples)) (r .plans) p (λ k. given tt) (λ k. sample k .values)
           (λ k l.
-          sampled-set (promised k (le-trans l (le-of-eq (sym n))))
-          (result-given (axes .count) (axes .moves) k (sym (accepted-axes-result (axes .count) (axes .moves) sent h)) l));
+          let within = le-trans l (le-of-eq (sym n)) in
+          sampled-set (promised k within) (result-given (axes .count) (axes .moves) k result within));
     }
 
 -- what `caller-axes` assumes can be met: the rules' own answers fill such structs, and for a closed instance the set is accepted

@@ -1,6 +1,6 @@
 -- Laws of a set: its checks axis after axis, and its largest N.
 use mathlib.Core.Bool.{true, false}
-use mathlib.Core.Path.{_≡_, refl, sym, ap, subst}
+use mathlib.Core.Path.{_≡_, refl, ap}
 use mathlib.Core.List.{List, [], _∷_, _++_, map}
 use Prim.Native.Nat.{ℕ, zero, suc, _+_, _≤_, _<_, max}
 use native.Mathlib.Numerals.{add-one}
@@ -13,10 +13,10 @@ use Rattle.planner.specs.Axes.{atRest, allAtRest, withPlace, axisChecks,
 use Rattle.planner.specs.AxesClaims.{AcceptedAxis}
 use Rattle.planner.specs.declared.Move.{Move}
 use Rattle.planner.proofs.Clash.{clash}
-use Rattle.planner.proofs.EachLaws.{each-joined, each-parts}
+use Rattle.planner.proofs.EachLaws.{each-joined, each-parts, each-mapped, mapped-each}
 use Rattle.planner.proofs.RefusalLaws.{Passes}
 use Rattle.planner.proofs.RuleRefusals.{Has, refusal-has}
-use Rattle.planner.proofs.AxisLaws.{by-rest, chosen, not-chosen, passed-axis, axis-passes, own-most}
+use Rattle.planner.proofs.AxisLaws.{both, passed-axis, axis-passes, own-most}
 
 -- the checks of one axis, and those of the axes after it
 module _ {B : Type 0} (place : ℕ) (ys : List (Check (ℕ × ℕ))) (o : Result (ℕ × ℕ) B) where
@@ -35,28 +35,26 @@ module _ {B : Type 0} (place : ℕ) (ys : List (Check (ℕ × ℕ))) (o : Result
   placed-passed (check m test ∷ xs) p = rw (p .0) (placed-passed xs (p .1))
 
 -- the checks of accepted axes pass, and the other way round
-placed : (place : ℕ) (xs : List (Check ℕ)) → Each Passes xs → Each Passes (map (withPlace place) xs)
-placed place [] p = tt
-placed place (check n t ∷ xs) p = (p .0, placed place xs (p .1))
+placed-passes : (place : ℕ) (x : Check ℕ) → Passes x → Passes (withPlace place x)
+placed-passes place (check n t) p = p
 
-not-placed : (place : ℕ) (xs : List (Check ℕ)) → Each Passes (map (withPlace place) xs) → Each Passes xs
-not-placed place [] p = tt
-not-placed place (check n t ∷ xs) p = (p .0, not-placed place xs (p .1))
+passes-placed : (place : ℕ) (x : Check ℕ) → Passes (withPlace place x) → Passes x
+passes-placed place (check n t) p = p
 
 pub axes-pass : (place : ℕ) (ms : List Move) → Each AcceptedAxis ms → Each Passes (checksFrom place ms)
 unfolding checksFrom
 axes-pass place [] h = tt
 axes-pass place (m ∷ ms) h =
-    each-joined Passes (map (withPlace place) (axisChecks m)) _ (placed place (axisChecks m) (axis-passes m (h .0))) (axes-pass
-    (suc place) ms
-    (h .1))
+    each-joined Passes (map (withPlace place) (axisChecks m)) _
+    (each-mapped (withPlace place) Passes Passes (placed-passes place) (axisChecks m) (axis-passes m (h .0)))
+    (axes-pass (suc place) ms (h .1))
 
 pub passed-axes : (place : ℕ) (ms : List Move) → Each Passes (checksFrom place ms) → Each AcceptedAxis ms
 unfolding checksFrom
 passed-axes place [] h = tt
 passed-axes place (m ∷ ms) h =
     let p = each-parts Passes (map (withPlace place) (axisChecks m)) _ h in
-    (passed-axis m (not-placed place (axisChecks m) (p .0)), passed-axes (suc place) ms (p .1))
+    (passed-axis m (mapped-each (withPlace place) Passes Passes (passes-placed place) (axisChecks m) (p .0)), passed-axes (suc place) ms (p .1))
 
 -- the largest N
 common-joined : (ms : List Move) (m : Move) → commonSamples (ms ++ (m ∷ [])) ≡ max (commonSamples ms) (ownSamples m)
@@ -98,21 +96,18 @@ abbrev NumberFromOne : ℕ × ℕ → Type 0
 NumberFromOne x = 1 ≤ x .0
 
 axis-numbers : (m : Move) → Each (Has (λ (n : ℕ). 1 ≤ n)) (axisChecks m)
-axis-numbers m =
-    by-rest m (λ h. subst (Each (Has (λ (n : ℕ). 1 ≤ n))) (sym (chosen _ _ h)) (omega arith))
-    (λ h. subst (Each (Has (λ (n : ℕ). 1 ≤ n))) (sym (not-chosen _ _ h)) (omega arith))
+axis-numbers m = both (Each (Has (λ (n : ℕ). 1 ≤ n))) (atRest m) (omega arith) (omega arith)
 
-placed-numbers : (place : ℕ) (xs : List (Check ℕ)) → Each (Has (λ (n : ℕ). 1 ≤ n)) xs → Each (Has NumberFromOne) (map (withPlace place) xs)
-placed-numbers place [] p = tt
-placed-numbers place (check n t ∷ xs) p = (p .0, placed-numbers place xs (p .1))
+placed-number : (place : ℕ) (x : Check ℕ) → Has (λ (n : ℕ). 1 ≤ n) x → Has NumberFromOne (withPlace place x)
+placed-number place (check n t) p = p
 
 from-numbers : (place : ℕ) (ms : List Move) → Each (Has NumberFromOne) (checksFrom place ms)
 unfolding checksFrom
 from-numbers place [] = tt
 from-numbers place (m ∷ ms) =
-    each-joined (Has NumberFromOne) (map (withPlace place) (axisChecks m)) _ (placed-numbers place (axisChecks m) (axis-numbers m))
-    (from-numbers
-    (suc place) ms)
+    each-joined (Has NumberFromOne) (map (withPlace place) (axisChecks m)) _
+    (each-mapped (withPlace place) (Has (λ (n : ℕ). 1 ≤ n)) (Has NumberFromOne) (placed-number place) (axisChecks m) (axis-numbers m))
+    (from-numbers (suc place) ms)
 
 pub refused-from-one : (count : ℕ) (moves : List Move) (x : ℕ × ℕ) → axesResult count moves ≡ refused x → 1 ≤ x .0
 unfolding axesResult

@@ -1,9 +1,9 @@
 -- Why and where a set is refused: the claim `AxesRefusedClaim` of specs/AxesClaims.antt.
-use mathlib.Core.Bool.{Bool, true, false, true≢false, _||_}
+use mathlib.Core.Bool.{true, true≢false, _||_}
 use mathlib.Core.List.{List, [], _∷_, _++_, map}
 use mathlib.Core.Logic.{Iff·trans, _⊎_, inl, inr}
 use mathlib.Core.Path.{_≡_, refl, sym, ap, subst, _∙_}
-use Prim.Native.Nat.{ℕ, zero, suc, _+_, _≤_, _<_}
+use Prim.Native.Nat.{ℕ, zero, suc, _+_, _<_}
 use native.Mathlib.Omega.{arith}
 use lib.Dec.{eqb, ltb}
 use lib.ListN.{length, take}
@@ -14,9 +14,9 @@ use Rattle.planner.specs.AxesClaims.{axisAt, AcceptedAxis, Moving, Resti
 use Rattle.planner.specs.declared.Move.{Move}
 use Rattle.planner.proofs.RefusalLaws.{Passes, passed-range, range-passes}
 use Rattle.planner.proofs.OrderLaws.{first-given}
-use Rattle.planner.proofs.AxisLaws.{by-rest, rest-resting, rest-moving, passed-axis, axis-passes}
+use Rattle.planner.proofs.AxisLaws.{either, by-rest, rest-resting, rest-moving, passed-axis, axis-passes}
 use Rattle.planner.proofs.MovingLaws.{some-moves, not-all-rest}
-use Rattle.planner.proofs.CountedLaws.{counted-at, counted-length, within, moves-counted}
+use Rattle.planner.proofs.CountedLaws.{counted-at, within, below-count, moves-counted}
 
 -- the first to apply is among the checks of an axis, or these pass and it is further on
 split :
@@ -114,11 +114,8 @@ all-resting ms h i l =
     (λ q. absurd (true≢false (sym h ∙ not-all-rest ms i l (rest-moving (axisAt ms i) q))))
 
 resting-all : (ms : List Move) → ((i : ℕ) → i < length ms → Resting (axisAt ms i)) → allAtRest ms ≡ true
-resting-all ms h = by-test (allAtRest ms) refl
-  where
-    by-test : (t : Bool) → allAtRest ms ≡ t → allAtRest ms ≡ true
-    by-test true q = q
-    by-test false q = let s = some-moves ms q in absurd (omega (arith, s .moves-there, h (s .axis) (s .counted)))
+resting-all ms h =
+    either (allAtRest ms) (λ q. q) (λ q. let s = some-moves ms q in absurd (omega (arith, s .moves-there, h (s .axis) (s .counted))))
 
 module _ (count : ℕ) (moves : List Move) (sent : length moves ≡ mostAxes) where
   abbrev axes : List Move
@@ -139,25 +136,21 @@ module _ (count : ℕ) (moves : List Move) (sent : length moves ≡ mostAxes) wh
       let in-range = passed-range mostAxes count range in
       let r = refused-from 1 axes n p h in
       let f = r .first in
-      let counted-axis : r .axis < count = omega (arith, f .counted, counted-length count moves sent (in-range .1)) in
+      let counted-axis = below-count count moves sent (in-range .1) (r .axis) (f .counted) in
       subst (Reason count moves n) (omega (arith, r .place-is))
       (axis-refused (in-range .0) (in-range .1) (moves-counted count moves sent (in-range .1) (some-moves axes move))
       (r .axis) n counted-axis
       (λ j l. subst AcceptedAxis (counted-at count moves j (omega (arith, l, counted-axis))) (f .accepted j l))
       (subst (λ (m : Move). FirstToApply n (axisChecks m)) (counted-at count moves (r .axis) counted-axis) (f .here)))
 
-  counted-within : count ≤ mostAxes → (i : ℕ) → i < length axes → i < count
-  counted-within most i l = omega (arith, l, counted-length count moves sent most)
-
   from-reason : (n p : ℕ) → Reason count moves n p → FirstToApply (n, p) (axesChecks count moves)
-  from-reason n p (not-a-count h) = inl (applies (eqb count 0 || ltb mostAxes count) refl, refl)
-    where
-      applies : (t : Bool) → (eqb count 0 || ltb mostAxes count) ≡ t → (eqb count 0 || ltb mostAxes count) ≡ true
-      applies true q = q
-      applies false q = let r = passed-range mostAxes count q in absurd (h (r .0) (r .1))
+  from-reason n p (not-a-count h) =
+      let applies = either (eqb count 0 || ltb mostAxes count) (λ q. q)
+      (λ q. let r = passed-range mostAxes count q in absurd (h (r .0) (r .1))) in
+      inl (applies, refl)
   from-reason n p (all-rest one most h) =
       let rests : (i : ℕ) → i < length axes → Resting (axisAt axes i) =
-      λ i l. let c = counted-within most i l in subst Resting (sym (counted-at count moves i c)) (h i c) in
+      λ i l. let c = below-count count moves sent most i l in subst Resting (sym (counted-at count moves i c)) (h i c) in
       inr (range-passes mostAxes count one most, inl (resting-all axes rests, refl))
   from-reason n p (axis-refused one most moving i n′ l before here) =
       let there : (j : ℕ) → j < count → axisAt moves j ≡ axisAt axes j = λ j c. sym (counted-at count moves j c) in

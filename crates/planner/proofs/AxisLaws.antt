@@ -20,19 +20,20 @@ use Rattle.planner.proofs.UndividedChecks.{ownBounds, boundsOf}
 use Rattle.planner.proofs.Acceptance.{passed-accepted, accepted-passes}
 
 -- one of two, by a test
-either : {P : Type 0} (t : Bool) → (t ≡ true → P) → (t ≡ false → P) → P
+pub either : {P : Type 0} (t : Bool) → (t ≡ true → P) → (t ≡ false → P) → P
 either true yes-case no-case = yes-case refl
 either false yes-case no-case = no-case refl
 
 abbrev taken : Plan → ℕ
 taken x = N (intervalsIn x)
 
-module _ {A : Type 0} {t : Bool} (x y : A) where
-  pub chosen : t ≡ true → cond t x y ≡ x
-  chosen h = ap (λ (t : Bool). cond t x y) h
+-- the one that the test chooses: x where it is true, y where it is false
+pub chosen : {A : Type 0} {t by : Bool} (x y : A) → t ≡ by → cond t x y ≡ cond by x y
+chosen x y h = ap (λ (t : Bool). cond t x y) h
 
-  pub not-chosen : t ≡ false → cond t x y ≡ y
-  not-chosen h = ap (λ (t : Bool). cond t x y) h
+pub both : {A : Type 0} (P : A → Type 0) (t : Bool) {x y : A} → P x → P y → P (cond t x y)
+both P true h l = h
+both P false h l = l
 
 module _ (m : Move) where
   pub by-rest : {P : Type 0} → (atRest m ≡ true → P) → (atRest m ≡ false → P) → P
@@ -51,7 +52,7 @@ module _ (m : Move) where
   pub passed-axis : Each Passes (axisChecks m) → AcceptedAxis m
   passed-axis p =
       record {
-        moving = λ h. passed-accepted m (subst (Each Passes) (not-chosen _ _ (moving-rest h)) p);
+        moving = λ h. passed-accepted m (subst (Each Passes) (chosen _ _ (moving-rest h)) p);
         resting = λ h. bounds-in-range (subst (Each Passes) (chosen _ _ (eq-eqb _ _ h)) p);
       }
 
@@ -59,7 +60,7 @@ module _ (m : Move) where
   axis-passes h =
       by-rest
       (λ q. subst (Each Passes) (sym (chosen _ _ q)) (bounds-pass (h .resting (rest-resting q))))
-      (λ q. subst (Each Passes) (sym (not-chosen _ _ q)) (accepted-passes m (h .moving (rest-moving q))))
+      (λ q. subst (Each Passes) (sym (chosen _ _ q)) (accepted-passes m (h .moving (rest-moving q))))
 
   -- what `undivided_axis` answers
   resting-is : atRest m ≡ true → axisResult m ≡ firstRefusal (ownBounds m) (given restPlan)
@@ -68,7 +69,7 @@ module _ (m : Move) where
 
   pub moving-is : atRest m ≡ false → axisResult m ≡ undividedResult m
   unfolding undividedResult axisResult
-  moving-is h = ap₂ (λ xs t. firstRefusal xs (given t)) (not-chosen _ _ h) (not-chosen _ _ h)
+  moving-is h = ap₂ (λ xs t. firstRefusal xs (given t)) (chosen _ _ h) (chosen _ _ h)
 
   pub resting-refused : (n : ℕ) → atRest m ≡ true → refused n ≡ boundsOf m → refused n ≡ axisResult m
   unfolding boundsResult
@@ -80,12 +81,12 @@ module _ (m : Move) where
 
   pub own-is : N (intervalsIn (undividedAxis m)) ≡ ownSamples m
   unfolding samplesOf
-  own-is = by-rest (λ q. ap taken (chosen _ _ q) ∙ sym (chosen _ _ q)) (λ q. ap taken (not-chosen _ _ q) ∙ sym (not-chosen _ _ q))
+  own-is = by-rest (λ q. ap taken (chosen _ _ q) ∙ sym (chosen _ _ q)) (λ q. ap taken (chosen _ _ q) ∙ sym (chosen _ _ q))
 
   pub own-most : AcceptedAxis m → ownSamples m ≤ mostSamples
   own-most h =
       by-rest (λ q. subst (λ (n : ℕ). n ≤ mostSamples) (sym (chosen _ _ q)) (omega arith))
-      (λ q. subst (λ (n : ℕ). n ≤ mostSamples) (sym (not-chosen _ _ q)) (h .moving (rest-moving q) .short-enough))
+      (λ q. subst (λ (n : ℕ). n ≤ mostSamples) (sym (chosen _ _ q)) (h .moving (rest-moving q) .short-enough))
 
   -- what follows where it was not refused
   module _ {x : Plan} (h : given x ≡ axisResult m) where

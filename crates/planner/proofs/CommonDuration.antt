@@ -15,7 +15,7 @@ use Rattle.planner.specs.declared.Plan.{Plan}
 use Rattle.planner.proofs.AxisLaws.{moving-rest}
 use Rattle.planner.proofs.AxesLaws.{own-within}
 use Rattle.planner.proofs.RaisedLaws.{takes-common, moving-plan}
-use Rattle.planner.proofs.CountedLaws.{counted-at, counted-length, within}
+use Rattle.planner.proofs.CountedLaws.{counted-at, within, below-count}
 use Rattle.planner.proofs.LongestLaws.{samples-from-one, own-moving, longest}
 use Rattle.planner.proofs.AxesAcceptance.{planned-common, planned-accepted, axis-plan-at}
 
@@ -42,7 +42,7 @@ common-duration count moves sent n plans h =
     let common : n ≡ commonSamples (take count moves) = planned-common count moves h in
     let s = longest (take count moves) (subst (λ (n : ℕ). 1 ≤ n) common (from-one count moves sent h)) in
     let most = planned-accepted count moves h sent .at-most in
-    let counted : s .axis < count = omega (arith, s .counted, counted-length count moves sent most) in
+    let counted = below-count count moves sent most (s .axis) (s .counted) in
     let same : axisAt (take count moves) (s .axis) ≡ axisAt moves (s .axis) = counted-at count moves _ counted in
     record {
       longest = s .axis;

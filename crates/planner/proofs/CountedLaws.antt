@@ -21,16 +21,19 @@ module _ (count : ℕ) (moves : List Move) (sent : length moves ≡ mostAxes) (m
   pub within : (i : ℕ) → i < count → i < length (take count moves)
   within i l = omega (arith, l, counted-length)
 
+  pub below-count : (i : ℕ) → i < length (take count moves) → i < count
+  below-count i l = omega (arith, l, counted-length)
+
   module _ (P : Move → Type 0) where
     pub counted-each : ((i : ℕ) → i < count → P (axisAt moves i)) → Each P (take count moves)
     counted-each h =
         each-from P (take count moves) _
-        (λ i l. let c : i < count = omega (arith, l, counted-length) in subst P (sym (counted-at count moves i c)) (h i c))
+        (λ i l. let c = below-count i l in subst P (sym (counted-at count moves i c)) (h i c))
 
     pub each-counted : Each P (take count moves) → (i : ℕ) → i < count → P (axisAt moves i)
     each-counted h i l = subst P (counted-at count moves i l) (each-at P (take count moves) i _ (within i l) h)
 
   pub moves-counted : SomeMoves (length (take count moves)) (take count moves) → SomeMoves count moves
   moves-counted s =
-      let c : s .axis < count = omega (arith, s .counted, counted-length) in
+      let c = below-count (s .axis) (s .counted) in
       record { axis = s .axis; counted = c; moves-there = subst Moving (counted-at count moves _ c) (s .moves-there) }

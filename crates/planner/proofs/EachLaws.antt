@@ -1,5 +1,5 @@
 -- A property of every element of a list, taken apart and put together.
-use mathlib.Core.List.{List, [], _∷_, _++_}
+use mathlib.Core.List.{List, [], _∷_, _++_, map}
 use Prim.Native.Nat.{ℕ, zero, suc, _<_}
 use native.Mathlib.Omega.{arith}
 use lib.ListN.{length, getD}
@@ -22,3 +22,13 @@ module _ {A : Type 0} (P : A → Type 0) where
   pub each-from : (xs : List A) (d : A) → ((i : ℕ) → i < length xs → P (getD xs i d)) → Each P xs
   each-from [] d h = tt
   each-from (x ∷ xs) d h = (h 0 (omega arith), each-from xs d (λ i l. h (suc i) (omega arith)))
+
+-- the same of what the elements are mapped to, and the other way round
+module _ {A B : Type 0} (f : A → B) (P : A → Type 0) (Q : B → Type 0) where
+  pub each-mapped : ((x : A) → P x → Q (f x)) → (xs : List A) → Each P xs → Each Q (map f xs)
+  each-mapped g [] h = tt
+  each-mapped g (x ∷ xs) h = (g x (h .0), each-mapped g xs (h .1))
+
+  pub mapped-each : ((x : A) → Q (f x) → P x) → (xs : List A) → Each Q (map f xs) → Each P xs
+  mapped-each g [] h = tt
+  mapped-each g (x ∷ xs) h = (g x (h .0), mapped-each g xs (h .1))

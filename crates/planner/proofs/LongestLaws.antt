@@ -10,14 +10,14 @@ use Rattle.planner.specs.Axes.{ownSamples, commonSamples}
 use Rattle.planner.specs.AxesClaims.{Moving, axisAt}
 use Rattle.planner.specs.declared.Move.{Move}
 use Rattle.planner.proofs.PlannedFacts.{rule-ordered}
-use Rattle.planner.proofs.AxisLaws.{chosen, not-chosen, by-rest, rest-moving, moving-rest}
+use Rattle.planner.proofs.AxisLaws.{chosen, by-rest, rest-moving, moving-rest}
 
 pub samples-from-one : (m : Move) → 1 ≤ samplesOf m
 unfolding samplesOf
 samples-from-one m = omega (arith, rule-ordered m .one-a)
 
 pub own-moving : (m : Move) → Moving m → ownSamples m ≡ samplesOf m
-own-moving m h = not-chosen _ _ (moving-rest m h)
+own-moving m h = chosen _ _ (moving-rest m h)
 
 own-moves : (m : Move) → 1 ≤ ownSamples m → Moving m
 own-moves m h = by-rest m (λ q. let none : ownSamples m ≡ 0 = chosen _ _ q in absurd (omega (arith, h, none))) (rest-moving m)

@@ -20,7 +20,7 @@ use Rattle.planner.specs.declared.Move.{Move}
 use Rattle.planner.specs.declared.Plan.{Plan}
 use Rattle.planner.proofs.PlannedFacts.{rule-ordered, last-ordered, last-facts}
 use Rattle.planner.proofs.EachLaws.{each-at, each-joined}
-use Rattle.planner.proofs.AxisLaws.{by-rest, chosen, not-chosen, rest-moving, own-is}
+use Rattle.planner.proofs.AxisLaws.{by-rest, chosen, rest-moving, own-is}
 use Rattle.planner.proofs.AxesLaws.{own-within, common-most}
 use Rattle.planner.proofs.PaddedLaws.{padded-length, padded-mapped}
 
@@ -50,7 +50,7 @@ module _ (axes : List Move) (h : Each AcceptedAxis axes) (i : ℕ) (d : Move) (l
   axis = getD axes i d
 
   own-samples : samplesOf axis ≤ commonSamples axes
-  own-samples = subst (λ (k : ℕ). k ≤ commonSamples axes) (not-chosen _ _ moves) (own-within axes i d l)
+  own-samples = subst (λ (k : ℕ). k ≤ commonSamples axes) (chosen _ _ moves) (own-within axes i d l)
 
   abbrev raisedAxis : Intervals
   raisedAxis = raised (commonSamples axes) (intervalsOf axis)
@@ -65,7 +65,7 @@ module _ (axes : List Move) (h : Each AcceptedAxis axes) (i : ℕ) (d : Move) (l
 
 pub moving-plan : (m : Move) (n : ℕ) → atRest m ≡ false → axisPlan m n ≡ planOf (distanceOf m) (raised n (intervalsOf m))
 unfolding axisPlan
-moving-plan m n h = not-chosen _ _ h
+moving-plan m n h = chosen _ _ h
 
 -- an axis by itself can be raised to a common duration n that is not shorter, and comes to the rule's plan
 module _ (m : Move) (n : ℕ) where
@@ -80,7 +80,7 @@ module _ (m : Move) (n : ℕ) where
   raise-is =
       by-rest m
       (λ h. ap (raisedPlan n) (chosen _ _ h) ∙ sym (chosen _ _ h))
-      (λ h. ap (raisedPlan n) (not-chosen _ _ h) ∙ not-chosen _ _ has-intervals ∙ sym (not-chosen _ _ h))
+      (λ h. ap (raisedPlan n) (chosen _ _ h) ∙ chosen _ _ has-intervals ∙ sym (chosen _ _ h))
 
   raisable : ownSamples m ≤ n → n ≤ mostSamples → Raisable n (undividedAxis m)
   raisable l most =
@@ -88,7 +88,7 @@ module _ (m : Move) (n : ℕ) where
         ordered = λ q.
             by-rest m
             (λ h. absurd (true≢false (ap (λ (x : Plan). eqb (x .a) 0) (sym (chosen _ _ h)) ∙ q)))
-            (λ h. subst (λ (x : Plan). Ordered (intervalsIn x)) (sym (not-chosen _ _ h)) (rule-ordered m));
+            (λ h. subst (λ (x : Plan). Ordered (intervalsIn x)) (sym (chosen _ _ h)) (rule-ordered m));
         not-longer = subst (λ (k : ℕ). k ≤ n) (sym (own-is m)) l;
         samples = most;
       }

@@ -18,7 +18,7 @@ use Rattle.planner.specs.declared.Plan.{Plan}
 use Rattle.planner.proofs.RefusalLaws.{stop, skip}
 use Rattle.planner.proofs.RuleRefusals.{Between, refusal-has}
 use Rattle.planner.proofs.Acceptance.{acceptance, accepted-outcome}
-use Rattle.planner.proofs.AxisLaws.{not-chosen, by-rest, rest-moving}
+use Rattle.planner.proofs.AxisLaws.{chosen, by-rest, rest-moving}
 use Rattle.planner.proofs.AxesLaws.{placed-refused}
 use Rattle.planner.proofs.AxesAnswers.{rest-refused, axes-result, plans-refused, plans-given}
 use Rattle.planner.proofs.MovingLaws.{not-all-rest}
@@ -46,7 +46,7 @@ module _ (m : Move) where
   module _ (q : atRest m ≡ false) where
     same-checks : firstRefusal (axisChecks m) (given plan) ≡ outcomeOf m
     unfolding outcomeOf
-    same-checks = ap (λ (xs : List (Check ℕ)). firstRefusal xs (given plan)) (not-chosen _ _ q)
+    same-checks = ap (λ (xs : List (Check ℕ)). firstRefusal xs (given plan)) (chosen _ _ q)
 
     of-an-axis : (n : ℕ) → outcomeOf m ≡ refused n → Between 2 7 n
     unfolding outcomeOf
@@ -57,7 +57,7 @@ module _ (m : Move) where
 
     not-raised : plan ≡ axisPlan m (N (intervalsOf m))
     unfolding axisPlan
-    not-raised = sym (not-chosen _ _ q ∙ ap (planOf (distanceOf m)) (raised-own (intervalsOf m)))
+    not-raised = sym (chosen _ _ q ∙ ap (planOf (distanceOf m)) (raised-own (intervalsOf m)))
 
     pub own-common : N (intervalsOf m) ≡ commonSamples (m ∷ [])
     unfolding commonSamples samplesOf

@@ -23,7 +23,7 @@ in-range : (c : tie.Else2) → (eqb (c .before .before .args .count) 0 || ltb mo
 in-range c = rw (
   ne-eqb (c .before .before .args .count) 0 (c .before .if1 .left),
   le-ltb mostAxes (c .before .before .args .count)
-      (c .if2 .left),
+      (omega (arith, c .if2 .left)),
 ) refl
 
 moves : (c : tie.Else3)
@@ -58,7 +58,7 @@ returns-2 c =
     (count-refused (s .count) (s .moves) (rw (
       ne-eqb (s .count) 0 (c .before .before .if1 .left),
       lt-ltb mostAxes (s .count)
-          (c .before .if2 .taken),
+          (omega (arith, c .before .if2 .taken)),
     ) refl)))
 
 all-rest-requires : tie.Need-all-rest-requires

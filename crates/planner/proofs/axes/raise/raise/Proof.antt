@@ -9,7 +9,7 @@ use Rattle.planner.specs.Outcome.{intervalsIn, planOf}
 use Rattle.planner.specs.Axes.{raised}
 use Rattle.planner.specs.Inner.Undivided.{undivided}
 use Rattle.planner.specs.declared.Plan.{Plan}
-use Rattle.planner.proofs.AxisLaws.{chosen, not-chosen}
+use Rattle.planner.proofs.AxisLaws.{chosen}
 use Rattle.planner.proofs.axes.raise.raise.Statement.{statement}
 use Rattle.planner.proofs.axes.raise.raise.Tie as tie
 
@@ -52,7 +52,7 @@ returns-2 : tie.Need-returns-2
 returns-2 c =
     c .divided .ensures
     ∙ ap (λ (x : Plan). planOf (x .shortfall) (intervalsIn x)) (longer (c .before .before))
-    ∙ sym (not-chosen _ _ (moves (c .before .before .before)))
+    ∙ sym (chosen _ _ (moves (c .before .before .before)))
 
 pub raise-spec : {M : Type 1} → statement M
 raise-spec = tie.close (tie.spec returns samples-in-requires sub-more add-t5 divided-requires returns-2)

@@ -42,15 +42,17 @@ still :
     → getD (c .before .before .loop .raised .plans) (c .before .before .loop .i) restPlan
     ≡ getD (c .before .before .before .args .found .plans) (c .before .before .loop .i) restPlan
 still c =
-    ap (λ (l : List Plan). getD l (c .before .before .loop .i) restPlan) (c .before .before .loop .inv .plans-are)
-    ∙ mapped-at (raisedPlan (c .before .before .before .args .samples)) (c .before .before .before .args .found .plans) restPlan
-    (c .before .before .loop .i) (omega (arith, c .before .before .before .pre .places))
+    let l = c .before .before .loop in
+    let a = c .before .before .before .args in
+    ap (λ (xs : List Plan). getD xs (l .i) restPlan) (l .inv .plans-are)
+    ∙ mapped-at (raisedPlan (a .samples)) (a .found .plans) restPlan (l .i) (omega (arith, c .before .before .before .pre .places))
 
 raise-requires : tie.Need-raise-requires Inv-loop μ-loop
 raise-requires c κs =
-    subst (Raisable (c .before .before .before .args .samples)) (sym (still c))
-    (each-at (Raisable (c .before .before .before .args .samples)) (c .before .before .before .args .found .plans)
-    (c .before .before .loop .i) restPlan (omega (arith, c .before .before .before .pre .places)) (c .before .before .before .pre .each))
+    let a = c .before .before .before .args in
+    let p = c .before .before .before .pre in
+    subst (Raisable (a .samples)) (sym (still c))
+    (each-at (Raisable (a .samples)) (a .found .plans) (c .before .before .loop .i) restPlan (omega (arith, p .places)) (p .each))
 
 mul-t7 : tie.Need-mul-t7 Inv-loop μ-loop
 mul-t7 c = omega arith
