@@ -19,12 +19,15 @@ static void print_plans(nitswolan_axes axes, nitswolan_axes_plan_result planned)
   }
 }
 
-/* A drive would send each axis its count at the tick of sample k. Nothing is refused: the set was accepted, and k is from 0 to its N. */
+/* A drive would send each axis its count at the tick of sample k, and a bench would log the remainder: how far the position is from that
+ * count, in units. Nothing is refused: the set was accepted, and k is from 0 to its N. */
 static void play(nitswolan_axes axes, uint64_t samples) {
-  printf("sample  rail  lift  gripper\n");
+  printf("sample  rail      remainder  lift      remainder  gripper      remainder\n");
   for (uint64_t k = 0; k <= samples; k++) {
     const nitswolan_axes_sample_result now = nitswolan_sample_axes(axes, k);
-    printf("%6" PRIu64 "  %4" PRId64 "  %4" PRId64 "  %7" PRId64 "\n", k, now.values[0].count, now.values[1].count, now.values[2].count);
+    const nitswolan_sample rail = now.values[0], lift = now.values[1], gripper = now.values[2];
+    printf("%6" PRIu64 "  %4" PRId64 "  %13" PRId64 "  %4" PRId64 "  %13" PRId64 "  %7" PRId64 "  %13" PRId64 "\n", k, rail.count,
+           rail.remainder, lift.count, lift.remainder, gripper.count, gripper.remainder);
   }
 }
 

@@ -103,7 +103,10 @@ typedef struct {
   uint64_t shortfall;
 } nitswolan_plan_result;
 
-/* The values at a sample in units, and the position to the nearest count, halves away from 0. */
+/* The values at a sample in units; the position to the nearest count, halves away from 0; and the remainder in units, which is the position
+ * minus NITSWOLAN_UNITS_PER_COUNT times the count. It lies from -2^39 to 2^39, half a count either way: above 0 where the position is
+ * greater than the count, and below 0 where it is less, whatever the direction of the move. At sample N it is minus the shortfall if the
+ * displacement is above 0, and plus the shortfall if it is below 0. */
 typedef struct {
   uint64_t refusal;
   int64_t snap;
@@ -112,6 +115,7 @@ typedef struct {
   int64_t velocity;
   int64_t position;
   int64_t count;
+  int64_t remainder;
 } nitswolan_sample_result;
 
 /* The plan of an axis in a set, as in nitswolan_plan_result, with e raised so that the intervals sum to the N of the set. `snap` is the
@@ -134,7 +138,8 @@ typedef struct {
   nitswolan_plan plans[NITSWOLAN_MOST_AXES];
 } nitswolan_axes_plan_result;
 
-/* The values of an axis at a sample, as in nitswolan_sample_result. All six are 0 for an axis at rest. */
+/* The values of an axis at a sample, as in nitswolan_sample_result. At the N of the set the remainder is minus or plus the shortfall of the
+ * axis's plan in the set, which need not be that of its move alone. All seven are 0 for an axis at rest. */
 typedef struct {
   int64_t snap;
   int64_t jerk;
@@ -142,6 +147,7 @@ typedef struct {
   int64_t velocity;
   int64_t position;
   int64_t count;
+  int64_t remainder;
 } nitswolan_sample;
 
 /* The values of a set at a sample: values[i] for moves[i]; those after the count hold zeros. `place` as for plans. */

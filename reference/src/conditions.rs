@@ -8,6 +8,7 @@ pub use case::Case;
 
 use crate::draw::machines::{ABOVE_LARGEST, BELOW_STIFFNESS, LEAST};
 use crate::draw::moves::{BOUND_EDGES, DISPLACEMENT_EDGES};
+use crate::draw::samples::beyond_half;
 use crate::force::{Coefficients, Drive, Machine, LARGEST_NUMBER, LEAST_STIFFNESS};
 use crate::sheet::LARGEST_TEXT;
 use std::ops::RangeInclusive;
@@ -132,16 +133,31 @@ fn ends() -> Table {
     ]
 }
 
-/// 7 before 9; positions at a half count, and a unit short of it.
+/// 7 before 9; what rounding does.
 fn samples() -> Table {
-    let mut table = vec![row("7 and 9", |case| {
-        case.refusal() == 7 && case.k() > case.n()
-    })];
+    let both = row("7 and 9", |case| case.refusal() == 7 && case.k() > case.n());
+    let alone = |name, are: Rounds| row(name, move |case| are(case.rounding(1)));
+    joined([vec![both], roundings(alone)])
+}
+
+/// Whether a position and its remainder are as a condition says.
+type Rounds = Box<dyn Fn([i64; 2]) -> bool>;
+
+/// Positions at a half count and a unit beside it, and remainders of either sign, in
+/// both directions; `condition` says whose they are.
+fn roundings(condition: impl Fn(String, Rounds) -> Condition) -> Table {
+    let mut table = Table::new();
     for direction in [1, -1] {
-        for distance in [-1, 0] {
+        for distance in [-1, 0, 1] {
             let name = format!("{distance} units from a half count, direction {direction}");
-            let near = move |case: &Case| case.beyond_half(5) == [direction, distance];
-            table.push(row(name, near));
+            let wanted = [direction, distance];
+            let near = move |[at, _]: [i64; 2]| [at.signum(), beyond_half(at)] == wanted;
+            table.push(condition(name, Box::new(near)));
+        }
+        for sign in [1, -1] {
+            let name = format!("a remainder of sign {sign}, direction {direction}");
+            let left = move |both: [i64; 2]| both.map(i64::signum) == [direction, sign];
+            table.push(condition(name, Box::new(left)));
         }
     }
     table

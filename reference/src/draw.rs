@@ -3,6 +3,7 @@
 
 pub mod axes;
 pub mod axes_edges;
+mod halves;
 pub mod machines;
 pub mod moves;
 pub mod paper;

@@ -34,8 +34,8 @@ pub const KINDS: [Kind; 8] = [
         stored: 120,
         fixed: Vec::new,
         draw: |random| {
-            let motion = moves::any(random);
-            Request::Sample(motion, samples::sample(&motion, random))
+            let (motion, k) = samples::of_move(random);
+            Request::Sample(motion, k)
         },
         conditions: conditions::sample,
     },
@@ -97,8 +97,8 @@ pub const KINDS: [Kind; 8] = [
                 .collect()
         },
         draw: |random| {
-            let axes = axes::any(random);
-            Request::SampleAxes(axes, samples::sample_of_axes(&axes, random))
+            let (axes, k) = samples::of_axes(random);
+            Request::SampleAxes(axes, k)
         },
         conditions: conditions::axes::samples,
     },

@@ -1,5 +1,5 @@
-//! The profile of a move: five values and a count at each sample, and the
-//! tables filled from it. Every entry takes the move itself and plans inside.
+//! The profile of a move: five values, a count and a remainder at each sample, and
+//! the tables filled from it. Every entry takes the move itself and plans inside.
 
 mod counts;
 mod position_table;
@@ -8,7 +8,7 @@ mod sample;
 mod segments;
 mod state;
 
-pub use counts::nearest_count;
+pub use counts::{rounded, Rounding};
 pub use position_table::position_table;
 pub use reference_table::reference_table;
 pub use sample::{sample, sample_axes, Sample, SampleAnswer};

@@ -111,7 +111,7 @@ fn plan_fields(answer: Answer) -> Vec<i128> {
     fields
 }
 
-/// Refusal, snap, jerk, acceleration, velocity, position and count.
+/// Refusal, snap, jerk, acceleration, velocity, position, count and remainder.
 fn sample_fields(answer: SampleAnswer) -> Vec<i128> {
     let (refusal, sample) = match answer {
         SampleAnswer::Refused(number) => (number, Sample::default()),
@@ -142,7 +142,7 @@ fn set_fields(set: AxesPlan) -> Vec<i128> {
         .collect()
 }
 
-/// Snap, jerk, acceleration, velocity, position and count of each place.
+/// Snap, jerk, acceleration, velocity, position, count and remainder of each place.
 fn samples_fields(samples: [Sample; MOST_AXES]) -> Vec<i128> {
     let numbers = samples.iter().flat_map(Sample::numbers);
     numbers.map(i128::from).collect()

@@ -91,6 +91,7 @@ fn every_axis_is_sampled_to_the_common_end() {
             assert_eq!(at.velocity, direction * (velocity[k] << 39));
             assert_eq!(at.position, direction * (position[k] << 39));
             assert_eq!(at.count, direction * ((position[k] + 1) / 2));
+            assert_eq!(at.remainder, -direction * ((position[k] % 2) << 39));
         }
         assert_eq!(rest, Sample::default());
         assert_eq!(after, [Sample::default(); 5]);

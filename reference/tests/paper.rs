@@ -1,4 +1,5 @@
-//! Document 01's own values, typed from the document.
+//! Document 01's own values, typed from the document; and the remainders of its second
+//! move, worked by hand.
 
 use reference::force::{force_table, Machine};
 use reference::planner::{self, plan, Answer, Move};
@@ -66,6 +67,23 @@ fn the_first_move_and_its_forces() {
     assert_eq!(rows[3], 2199023255552.0);
     force_table(&first(), &machine(0.5, 1.0), &mut rows);
     assert_eq!(rows[2..4], [274877906944.0, 1649267441664.0]);
+}
+
+/// Document 02, request 2. Positions and remainders are in halves of a count.
+#[test]
+fn the_second_move_and_its_remainders() {
+    let position = [0, 0, 0, 0, 1, 3, 5, 7, 9, 11, 13, 15, 16];
+    let count = [0, 0, 0, 0, 1, 2, 3, 4, 5, 6, 7, 8, 8];
+    let remainder = [0, 0, 0, 0, -1, -1, -1, -1, -1, -1, -1, -1, 0];
+    for (k, direction) in (0..13).flat_map(|k| [(k, 1), (k, -1)]) {
+        let motion = Move::new(8 * direction, [G; 4]);
+        let SampleAnswer::Sampled(at) = sample(&motion, k as u64) else {
+            panic!("sample {k} is refused");
+        };
+        let worked = [position[k] << 39, count[k], remainder[k] << 39];
+        let found = [at.position, at.count, at.remainder];
+        assert_eq!(found, worked.map(|x| x * direction));
+    }
 }
 
 #[test]

@@ -1,9 +1,9 @@
-//! Demand 3, line by line, of moves and of sets' axes; then the tables and the
-//! nearest count.
+//! Demand 3, line by line, of moves and of sets' axes; then the tables, and rounding
+//! to counts.
 
 use reference::planner::{durations, plan, plan_axes, Answer, Axes, Move, Plan};
-use reference::profile::{nearest_count, position_table, reference_table, sample, sample_axes};
-use reference::profile::{Sample, SampleAnswer, TableAnswer};
+use reference::profile::{position_table, reference_table, rounded, sample, sample_axes};
+use reference::profile::{Rounding, Sample, SampleAnswer, TableAnswer};
 
 const G: u64 = 1 << 40;
 const TABLES: [fn(&Move, &mut [i64]) -> TableAnswer; 2] = [position_table, reference_table];
@@ -89,14 +89,24 @@ fn assert_half_count(motion: &Move, plan: &Plan, samples: &[Sample]) {
     }
 }
 
+/// Position minus G times the count, half a count at most.
+fn assert_remainder(at: &Sample) {
+    assert_eq!(at.remainder, at.position - G as i64 * at.count);
+    assert!(at.remainder.abs() <= 1 << 39);
+}
+
+/// With the remainders of document 02's request 2.
 fn assert_demand_3(motion: &Move, plan: &Plan, samples: &[Sample]) {
     assert_profile(motion, plan, samples);
     assert_sums_from_rest(samples);
     samples.iter().for_each(|at| assert_bounds(motion, at));
     assert_half_count(motion, plan, samples);
+    samples.iter().for_each(assert_remainder);
     let end = samples[samples.len() - 1];
     assert_eq!(end.values()[1..4], [0; 3]);
     assert_eq!(end.count, motion.displacement);
+    let short = plan.shortfall as i64 * motion.displacement.signum();
+    assert_eq!(end.remainder, -short);
 }
 
 #[test]
@@ -157,14 +167,24 @@ fn a_refused_table_is_kept() {
 }
 
 #[test]
-fn nearest_counts_with_halves_away_from_zero() {
-    let half = 1 << 39;
+fn nearest_counts_and_remainders_with_halves_away_from_zero() {
+    let numbers = |position| {
+        let Rounding { count, remainder } = rounded(position);
+        [count, remainder]
+    };
+    let (g, half) = (G as i64, 1 << 39);
+    // The last one leads up to i64::MAX, 1 unit before 2^23 counts.
     for below in [0, 1, 1_048_575, (1 << 23) - 1] {
-        for (units, more) in [(0, 0), (half - 1, 0), (half, 1), (2 * half - 1, 1)] {
-            let position = below * G as i64 + units;
-            assert_eq!(nearest_count(position), below + more);
-            assert_eq!(nearest_count(-position), -below - more);
+        for units in [0, 1, half - 1] {
+            let position = below * g + units;
+            assert_eq!(numbers(position), [below, units]);
+            assert_eq!(numbers(-position), [-below, -units]);
+        }
+        for units in [half, half - 1, 1] {
+            let position = below * g + (g - units);
+            assert_eq!(numbers(position), [below + 1, -units]);
+            assert_eq!(numbers(-position), [-below - 1, units]);
         }
     }
-    assert_eq!(nearest_count(i64::MIN), -(1 << 23));
+    assert_eq!(numbers(i64::MIN), [-(1 << 23), 0]);
 }

@@ -27,7 +27,9 @@ static void check_samples(checks *tally, areas *both) {
     step(&at);
   }
   CALL_TWICE(both, nitswolan_sample_move, backward, 19);
+  check_extent(tally, "bytes of a refused sample", both, SAMPLE_RESULT_SIZE);
   check(tally, "sample.refusal", word(both, SAMPLE_RESULT_REFUSAL), 9);
+  check_zeros(tally, "the rest of a refused sample", both, SAMPLE_RESULT_SAMPLE, SAMPLE_RESULT_SIZE);
 }
 
 static void check_tables(checks *tally) {

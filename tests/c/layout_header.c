@@ -31,6 +31,7 @@
     FIELD(type, velocity, (start) + SAMPLE_VELOCITY);         \
     FIELD(type, position, (start) + SAMPLE_POSITION);         \
     FIELD(type, count, (start) + SAMPLE_COUNT);               \
+    FIELD(type, remainder, (start) + SAMPLE_REMAINDER);       \
   } while (0)
 
 static void check_given(checks *tally) {

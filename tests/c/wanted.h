@@ -15,7 +15,7 @@ typedef struct {
   uint64_t shortfall;
 } wanted_plan;
 
-/* The count is the position's. */
+/* The count and the remainder are the position's. */
 typedef struct {
   int64_t snap;
   int64_t jerk;
@@ -56,6 +56,7 @@ static inline void check_sample_at(checks *tally, const areas *both, size_t star
   check(tally, "sample.velocity", word(both, start + SAMPLE_VELOCITY), (uint64_t)at.velocity);
   check(tally, "sample.position", word(both, start + SAMPLE_POSITION), (uint64_t)at.position);
   check(tally, "sample.count", word(both, start + SAMPLE_COUNT), (uint64_t)count);
+  check(tally, "sample.remainder", word(both, start + SAMPLE_REMAINDER), (uint64_t)(at.position - (int64_t)G * count));
 }
 
 /* The values one sample on, but for the snap. */

@@ -14,8 +14,8 @@ use Rattle.planner.proofs.StarredMoves.{firstStarred, first-accepted, secondSta
 use Rattle.motion.specs.Axes.{restSample, axesSampleResult, SamplesAxes}
 use Rattle.motion.specs.AxesClaims.{Demand3Axes}
 use Rattle.motion.specs.declared.Sample.{Sample}
-use Rattle.motion.proofs.RoundingLaws.{count-of}
 use Rattle.motion.proofs.AxisSampling.{axisRow}
+use Rattle.motion.proofs.AxesSampling.{placed-rows}
 use Rattle.motion.proofs.Demand3Axes.{demand-3-axes}
 
 module _ (count : ℕ) (moves : List Move) where
@@ -30,8 +30,7 @@ module _ (count : ℕ) (moves : List Move) where
       (axesSampleResult count moves k)
 
   pub rule-samples-axes : (k : ℕ) → SamplesAxes count moves k (axesSampleResult count moves k) (ruleSamples k)
-  rule-samples-axes k =
-      record { outcome-is = refl; placed = record { countOf = λ x. count-of x .count; count-is = λ x. count-of x .is; samples-are = refl } }
+  rule-samples-axes k = record { outcome-is = refl; placed = placed-rows count moves k refl }
 
 -- a closed instance: the first of document 01's moves, the mirror of the second, to which it is raised, an axis at rest, and five places
 -- that are not counted

@@ -19,9 +19,8 @@ use Rattle.motion.specs.Inner.PlannedAxes.{AxisInRange, IsAxisSample}
 use Rattle.motion.specs.declared.Sample.{Sample}
 use Rattle.motion.specs.declared.AxesSample.{AxesSample}
 use Rattle.motion.specs.declared.AxesSampleAnswer.the-variants.{Sampled}
-use Rattle.motion.proofs.RoundingLaws.{count-of}
 use Rattle.motion.proofs.AxisSampling.{axisRow, is-row, axis-in-range}
-use Rattle.motion.proofs.AxesSampling.{samples-given}
+use Rattle.motion.proofs.AxesSampling.{placed-rows, samples-given}
 
 -- the row of an axis at sample k, and the places of so many
 module _ (count : ℕ) (moves : List Move) (k : ℕ) where
@@ -54,7 +53,7 @@ module _ {count n : ℕ} {moves : List Move} {plans : List Plan}
     same : axisAt axes i ≡ axisAt moves i
     same = counted-at count moves i h
 
-    plan-is : getD plans i restPlan ≡ axisPlan (axisAt moves i) (commonSamples axes)
+    pub plan-is : getD plans i restPlan ≡ axisPlan (axisAt moves i) (commonSamples axes)
     plan-is = axis-plan-at count moves p sent i h ∙ ap (axisPlan (axisAt moves i)) (planned-common count moves p)
 
     pub axis-needs : {k : ℕ} → k ≤ n → AxisInRange (axisAt moves i) (getD plans i restPlan) k
@@ -87,8 +86,4 @@ module _ {count n : ℕ} {moves : List Move} {plans : List Plan}
       let end : length axes ≤ i = omega (arith, counted-length count moves sent most, all) in
       rw (f .answer-is)
       (samples-given count moves k (p .outcome-is) l
-      (record {
-        countOf = λ x. count-of x .count;
-        count-is = λ x. count-of x .is;
-        samples-are = f .samples-are ∙ ap (rows count moves k) (take-all i axes end);
-      }))
+      (placed-rows count moves k (f .samples-are ∙ ap (rows count moves k) (take-all i axes end))))

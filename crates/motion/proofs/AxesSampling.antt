@@ -11,17 +11,33 @@ use Rattle.planner.specs.declared.Move.{Move}
 use Rattle.planner.proofs.RefusalLaws.{stop, skip, none-left, all-pass, checks-joined, same-refusal}
 use Rattle.planner.proofs.AxesAnswers.{all-passed, common-is}
 use Rattle.planner.proofs.PaddedLaws.{padded-at}
-use Rattle.motion.specs.Sampling.{sampleOf}
+use Rattle.motion.specs.Sampling.{Values}
 use Rattle.motion.specs.Axes.{restSample, axisValues, axesSampleResult, SamplesPlaced, SamplesAxes}
 use Rattle.motion.specs.declared.Sample.{Sample}
-use Rattle.motion.proofs.RoundingLaws.{count-of}
-use Rattle.motion.proofs.AxisSampling.{axisRow, row-of}
+use Rattle.motion.proofs.RoundingLaws.{rounding-of}
+use Rattle.motion.proofs.RoundedValues.{one-rounded-sample}
+use Rattle.motion.proofs.AxisSampling.{axisRow}
 
 module _ (count : ℕ) (moves : List Move) where
   abbrev axes : List Move
   axes = take count moves
 
   module _ (k : ℕ) where
+    -- the rule's own rows are placed, and no others
+    abbrev row : Move → Sample
+    row m = axisRow (commonSamples axes) m k
+
+    module _ {o : Result (ℕ × ℕ) (Unit {0})} {samples : List Sample} where
+      pub placed-rows : samples ≡ axesPlaces count moves restSample row o → SamplesPlaced count moves k o samples
+      placed-rows q = record { rounding = rounding-of; samples-are = q }
+
+      pub only-rows : SamplesPlaced count moves k o samples → samples ≡ axesPlaces count moves restSample row o
+      only-rows x =
+          let v : Move → Values = λ m. axisValues (commonSamples axes) m k in
+          x .samples-are
+          ∙ ap (λ (row : Move → Sample). axesPlaces count moves restSample row o)
+          (λ i m. one-rounded-sample (v m) (x .rounding (v m .position)) i)
+
     -- all places are zeros at a refusal
     without :
         {x : ℕ × ℕ} → refused x ≡ axesSampleResult count moves k → SamplesAxes count moves k (refused x) (replicate mostAxes restSample)
@@ -29,8 +45,7 @@ module _ (count : ℕ) (moves : List Move) where
         record {
           outcome-is = q;
           placed =
-              subst (λ (o : Result (ℕ × ℕ) (Unit {0})). SamplesPlaced count moves k o (replicate mostAxes restSample)) q
-              (record { countOf = λ y. count-of y .count; count-is = λ y. count-of y .is; samples-are = refl });
+              subst (λ (o : Result (ℕ × ℕ) (Unit {0})). SamplesPlaced count moves k o (replicate mostAxes restSample)) q (placed-rows refl);
         }
 
     pub samples-refused :
@@ -69,8 +84,6 @@ module _ (count : ℕ) (moves : List Move) where
           {o : Result (ℕ × ℕ) (Unit {0})} {samples : List Sample} → SamplesAxes count moves k o samples → k ≤ n
           → (i : ℕ) (d : Move) → i < length axes → getD samples i restSample ≡ axisRow (commonSamples axes) (getD axes i d) k
       sampled-row {o} {samples} p l i d within =
-          let x = p .placed in
-          let row : Move → Sample = λ m. let v = axisValues (commonSamples axes) m k in sampleOf v (x .countOf (v .position)) in
-          ap (λ (l : List Sample). getD l i restSample) (x .samples-are ∙ ap (axesPlaces count moves restSample row) (sym (result-given l)))
+          ap (λ (l : List Sample). getD l i restSample)
+          (only-rows (p .placed) ∙ ap (axesPlaces count moves restSample row) (sym (result-given l)))
           ∙ padded-at row mostAxes restSample axes restSample d i within
-          ∙ row-of (commonSamples axes) (getD axes i d) k refl _ (x .count-is _)

@@ -5,26 +5,24 @@ use mathlib.Core.List.{List, [], _∷_}
 use Prim.Native.Nat.{ℕ, _<_}
 use borrow.Author.Tests.{ltb-true, lt-ltb}
 use lib.Dec.{ltb}
-use lib.IntN.{ℤ}
 use lib.ListN.{take}
 use Rattle.planner.specs.Result.{Result, given, check, firstRefusal}
-use Rattle.planner.specs.Axes.{commonSamples, axesPlaces}
+use Rattle.planner.specs.Axes.{commonSamples}
 use Rattle.planner.specs.declared.Move.{Move}
 use Rattle.planner.proofs.ResultLaws.{refused-or-given, same-refused}
 use Rattle.planner.proofs.OrderLaws.{first-given}
 use Rattle.planner.proofs.CountedAlone.{placesFor, same-places-for}
 use Rattle.planner.proofs.AxesAcceptance.{accepted-axes-result}
 use Rattle.motion.specs.Answer.{number}
-use Rattle.motion.specs.Sampling.{sampleOf}
-use Rattle.motion.specs.Axes.{restSample, axisValues, axesSampleResult, SamplesPlaced, axesSampleOutcome}
+use Rattle.motion.specs.Axes.{restSample, axesSampleResult, SamplesPlaced, axesSampleOutcome}
 use Rattle.motion.specs.AxesClaims.{AxesRefusalsClaim, RefusedAtSampleClaim, OneAxesSampleClaim, SamplesCountedAloneClaim}
 use Rattle.motion.specs.declared.Sample.{Sample}
 use Rattle.motion.specs.declared.AxesSampleAnswer.{AxesSampleAnswer}
 use Rattle.motion.specs.declared.AxesSampleAnswer.the-variants.{Sampled, Refused}
 use Rattle.motion.proofs.AnswerLaws.{number-injective}
-use Rattle.motion.proofs.CountLaws.{one-count}
 use Rattle.motion.proofs.RefusalTheorems.{only-reason}
-use Rattle.motion.proofs.AxesSampling.{own-check, samples-refused}
+use Rattle.motion.proofs.AxisSampling.{axisRow}
+use Rattle.motion.proofs.AxesSampling.{placed-rows, only-rows, own-check, samples-refused}
 
 pub axes-refusals : (count : ℕ) (moves : List Move) → AxesRefusalsClaim count moves
 axes-refusals count moves sent h k o samples p n =
@@ -47,19 +45,11 @@ outcome-injective (Refused i x) (Refused j y) h =
     let q = same-refused h in
     ap₂ Refused (ap (λ (z : ℕ × ℕ). z .1) q) (number-injective x y (ap (λ (z : ℕ × ℕ). z .0) q))
 
--- the places are one list, whatever gave the counts
+-- the places are one list, whatever rounds the positions
 pub same-places :
     {count : ℕ} {moves : List Move} {k : ℕ} {o : Result (ℕ × ℕ) (Unit {0})} {xs ys : List Sample}
     → SamplesPlaced count moves k o xs → SamplesPlaced count moves k o ys → xs ≡ ys
-same-places {count} {moves} {k} {o} p q =
-    let counts : p .countOf ≡ q .countOf = λ i x. one-count x _ _ (p .count-is x) (q .count-is x) i in
-    p .samples-are
-    ∙ ap
-    (λ (c : ℤ → ℤ).
-    axesPlaces count moves restSample
-    (λ m. let v = axisValues (commonSamples (take count moves)) m k in sampleOf v (c (v .position))) o)
-    counts
-    ∙ sym (q .samples-are)
+same-places p q = only-rows _ _ _ p ∙ sym (only-rows _ _ _ q)
 
 pub one-axes-sample : (count : ℕ) (moves : List Move) → OneAxesSampleClaim count moves
 one-axes-sample count moves k x y p q =
@@ -72,15 +62,12 @@ pub samples-counted-alone : (count : ℕ) (moves : List Move) → SamplesCounted
 unfolding axesSampleResult
 samples-counted-alone count moves others q k o samples p =
     let same : axesSampleResult count moves k ≡ axesSampleResult count others k = rw q refl in
-    let x = p .placed in
-    let row : ℕ → Move → Sample = λ n m. let v = axisValues n m k in sampleOf v (x .countOf (v .position)) in
+    let row : ℕ → Move → Sample = λ n m. axisRow n m k in
     record {
       outcome-is = p .outcome-is ∙ same;
       placed =
-          record {
-            countOf = x .countOf;
-            count-is = x .count-is;
-            samples-are = x .samples-are ∙ ap (placesFor count moves restSample row) same
-                ∙ same-places-for count moves others q restSample row (axesSampleResult count others k);
-          };
+          placed-rows count others k
+          (only-rows count moves k (p .placed)
+          ∙ ap (placesFor count moves restSample row) same
+          ∙ same-places-for count moves others q restSample row (axesSampleResult count others k));
     }

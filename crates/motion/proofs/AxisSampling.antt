@@ -1,10 +1,10 @@
 -- One axis of a set: what its sample needs of the plan, and that it is the rule's row.
 use mathlib.Core.Bool.{Bool, true, false, cond}
-use mathlib.Core.Path.{_≡_, sym, ap, ap₂, subst, _∙_}
+use mathlib.Core.Path.{_≡_, refl, sym, ap, subst, _∙_}
 use mathlib.Core.List.{List}
 use Prim.Native.Nat.{ℕ, _≤_, _<_}
 use native.Mathlib.Omega.{arith}
-use lib.IntN.{ℤ, pos}
+use lib.IntN.{pos}
 use lib.ListN.{length, getD}
 use Rattle.planner.specs.Intervals.{Intervals, N, D}
 use Rattle.planner.specs.Result.{Each}
@@ -15,13 +15,13 @@ use Rattle.planner.specs.declared.Move.{Move}
 use Rattle.planner.specs.declared.Plan.{Plan}
 use Rattle.planner.proofs.AxisLaws.{by-rest, chosen}
 use Rattle.planner.proofs.RaisedLaws.{raised-axis, raised-axis-samples, moving-plan}
-use Rattle.motion.specs.Sampling.{Values, valuesAt, sampleOf, IsCount}
+use Rattle.motion.specs.Sampling.{Values, valuesAt, sampleOf, Rounding}
 use Rattle.motion.specs.Axes.{restValues, restSample, axisValues, axisExact}
 use Rattle.motion.specs.Inner.Planned.{PlanInRange, IsSample}
 use Rattle.motion.specs.Inner.PlannedAxes.{AxisInRange, IsAxisSample}
 use Rattle.motion.specs.declared.Sample.{Sample}
-use Rattle.motion.proofs.CountLaws.{one-count, count-positive}
-use Rattle.motion.proofs.RoundingLaws.{count-of}
+use Rattle.motion.proofs.CountLaws.{past-count}
+use Rattle.motion.proofs.RoundedValues.{withRounding, one-rounded-sample}
 use Rattle.motion.proofs.EntryLaws.{within-range}
 
 -- an axis by the test whether it is at rest: its exact profile, and its values
@@ -39,22 +39,21 @@ module _ (n : ℕ) (m : Move) {rests : Bool} (h : atRest m ≡ rests) where
 
 -- its row at sample k
 module _ (n : ℕ) (m : Move) (k : ℕ) where
-  -- the rule's, with the count that every position has
+  -- the rule's
   abbrev pub axisRow : Sample
-  axisRow = sampleOf (axisValues n m k) (count-of (axisValues n m k .position) .count)
+  axisRow = withRounding (axisValues n m k)
 
-  -- there is no other count, so its values with a count are its row
-  pub row-of : {v : Values} → v ≡ axisValues n m k → (c : ℤ) → IsCount (v .position) c → sampleOf v c ≡ axisRow
-  row-of q c is = ap₂ sampleOf q (one-count _ _ _ (subst (λ (v : Values). IsCount (v .position) c) q is) (count-of _ .is))
+  pub row-of : {v : Values} → v ≡ axisValues n m k → (r : Rounding (v .position)) → sampleOf v r ≡ axisRow
+  row-of {v} q r = one-rounded-sample v r ∙ ap withRounding q
 
   pub resting-row : atRest m ≡ true → axisRow ≡ restSample
-  resting-row h = sym (row-of (sym (values-by n m h k)) (pos 0) (count-positive 0 0 (omega arith) (λ q. omega arith)))
+  resting-row h = sym (row-of (sym (values-by n m h k)) (record { count = pos 0; remainder = pos 0; rounded = past-count 0 0 0 refl (omega arith) }))
 
   moving-row : {x : Plan} {r : Sample} → x ≡ axisPlan m n → atRest m ≡ false → IsSample (m .displacement) (intervalsIn x) (x .snap) k r
       → r ≡ axisRow
   moving-row {r = r} q h s =
       let planned = ap (λ (x : Plan). valuesAt (m .displacement) (intervalsIn x) (x .snap) k) (q ∙ moving-plan m n h) in
-      s .sample-is ∙ row-of (planned ∙ sym (values-by n m h k)) (r .count) (s .count-is)
+      s .sample-is ∙ row-of (planned ∙ sym (values-by n m h k)) (s .rounding)
 
   pub is-row : {x : Plan} {r : Sample} → x ≡ axisPlan m n → IsAxisSample m x k r → r ≡ axisRow
   is-row q s = by-rest m (λ h. s .resting h ∙ sym (resting-row h)) (λ h. moving-row q h (s .moving h))

@@ -12,32 +12,28 @@ use Rattle.planner.specs.Outcome.{samplesOf}
 use Rattle.planner.specs.Claims.{Accepted}
 use Rattle.planner.specs.declared.Move.{Move}
 use Rattle.planner.proofs.PlannedFacts.{rule-facts}
-use Rattle.motion.specs.Sampling.{valuesOf, exactPositionTimesP, sampleOf, sampleWith, Samples}
+use Rattle.motion.specs.Sampling.{valuesOf, exactPositionTimesP, sampleWith, Samples}
 use Rattle.motion.specs.Tables.{FillsPositions}
 use Rattle.motion.specs.Demand3.{Demand3Claim}
 use Rattle.motion.specs.declared.Sample.{Sample}
-use Rattle.motion.proofs.CountLaws.{one-count}
-use Rattle.motion.proofs.RoundingLaws.{count-of}
+use Rattle.motion.proofs.RoundedValues.{withRounding, one-rounded-sample}
 use Rattle.motion.proofs.EntryLaws.{passes}
 use Rattle.motion.proofs.FillLaws.{filled-places, filled-row}
 use Rattle.motion.proofs.KeptRules.{keeps}
 use Rattle.motion.proofs.KeptLaws.{kept-snap, kept}
 
 module _ (m : Move) where
-  -- the rule's own values, with the count of each position
-  abbrev pub ruleCount : ℕ → ℤ
-  ruleCount k = count-of (valuesOf m k .position) .count
-
+  -- the rule's own values, rounded
   abbrev pub ruleAt : ℕ → Sample
-  ruleAt k = sampleOf (valuesOf m k) (ruleCount k)
+  ruleAt k = withRounding (valuesOf m k)
 
   -- what the one-sample entry gives
-  sampled : Accepted m → {k : ℕ} {o : Result ℕ Sample} → k ≤ samplesOf m → Samples m k o → o ≡ given (ruleAt k)
+  pub sampled : Accepted m → {k : ℕ} {o : Result ℕ Sample} → k ≤ samplesOf m → Samples m k o → o ≡ given (ruleAt k)
   unfolding sampleWith
   sampled h {k} l p =
       p .outcome-is
       ∙ passes h 9 _ _ (le-ltb (samplesOf m) k l)
-      ∙ ap (λ c. given (sampleOf (valuesOf m k) c)) (one-count _ _ _ (p .count-is) (count-of (valuesOf m k .position) .is))
+      ∙ ap given (one-rounded-sample (valuesOf m k) (p .rounding))
 
   -- what the table holds
   table-holds :
@@ -62,6 +58,6 @@ demand-3 m h sample promised old new rows room filled =
       answered = λ k l. sampled m h l (promised k l);
       table-places = table .0;
       table-position = table .1;
-      kept-snap = kept-snap f (ruleCount m);
-      kept = kept f (ruleCount m) (λ k. count-of (valuesOf m k .position) .is);
+      kept-snap = kept-snap f;
+      kept = kept f;
     }

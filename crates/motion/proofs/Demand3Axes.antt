@@ -18,13 +18,12 @@ use Rattle.planner.proofs.RaisedLaws.{raised-axis, raised-axis-samples}
 use Rattle.planner.proofs.CountedLaws.{counted-at, within}
 use Rattle.planner.proofs.AxesAcceptance.{accepted-each, accepted-axes-result}
 use Rattle.planner.proofs.CommonDuration.{common-duration}
-use Rattle.motion.specs.Sampling.{Values, valuesAt, sampleOf, IsCount}
-use Rattle.motion.specs.Axes.{restSample, axisValues, axisExact}
+use Rattle.motion.specs.Axes.{restSample, axisExact}
 use Rattle.motion.specs.AxesClaims.{KeptAxis, Demand3AxesClaim}
 use Rattle.motion.specs.Demand3.{KeptSnap, Kept}
 use Rattle.motion.specs.Inner.Planned.{directedPosition}
 use Rattle.motion.specs.declared.Sample.{Sample}
-use Rattle.motion.proofs.RoundingLaws.{count-of}
+use Rattle.motion.proofs.RoundedValues.{withRounding}
 use Rattle.motion.proofs.KeptRules.{Keeps, keeps}
 use Rattle.motion.proofs.KeptLaws.{sampleAt, kept-snap, kept}
 use Rattle.motion.proofs.AxisSampling.{axisRow, resting-row, values-by, exact-by}
@@ -57,33 +56,23 @@ module _ (n : ℕ) (m : Move) where
 
   -- a moving axis with the facts of its raised intervals
   module _ (h : atRest m ≡ false) {short : ℕ} (f : Keeps m t (D t (distanceOf m)) short) (last : N t ≡ n) where
-    count : ℕ → ℤ
-    count k = count-of (axisValues n m k .position) .count
-
     abbrev values : ℕ → Sample
-    values = sampleAt (m .displacement) t (D t (distanceOf m)) count
+    values = sampleAt (m .displacement) t (D t (distanceOf m))
 
     abbrev exact : ℕ → ℤ
     exact = directedPosition (m .displacement) t (distanceOf m)
 
     rows : row ≡ values
-    unfolding count
-    rows = λ i k. sampleOf (values-by n m h k i) (count-of (axisValues n m k .position) .count)
-
-    count-is : (k : ℕ) → IsCount (valuesAt (m .displacement) t (D t (distanceOf m)) k .position) (count k)
-    unfolding count
-    count-is k =
-        subst (λ (v : Values). IsCount (v .position) (count-of (axisValues n m k .position) .count)) (values-by n m h k)
-        (count-of (axisValues n m k .position) .is)
+    rows = λ i k. withRounding (values-by n m h k i)
 
     moving-kept : KeptAxis n m row
     moving-kept =
         record {
-          kept-snap = subst (KeptSnap m n) (sym rows) (subst (λ (n : ℕ). KeptSnap m n values) last (kept-snap f count));
+          kept-snap = subst (KeptSnap m n) (sym rows) (subst (λ (n : ℕ). KeptSnap m n values) last (kept-snap f));
           kept =
               subst (Kept m n (P t) (axisExact n m)) (sym rows)
               (subst (λ (E : ℕ → ℤ). Kept m n (P t) E values) (sym (exact-by n m h))
-              (subst (λ (n : ℕ). Kept m n (P t) exact values) last (kept f count count-is)));
+              (subst (λ (n : ℕ). Kept m n (P t) exact values) last (kept f)));
           at-rest = λ q k. absurd (true≢false (sym (eq-eqb _ _ q) ∙ h));
         }
 

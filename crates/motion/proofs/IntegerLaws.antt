@@ -58,3 +58,11 @@ pos-below m n h = record { lt = lt→ltb m n h }
 pub small-fits : (x : ℤ) → natAbs x ≤ 2 ^ 60 → SFits w64 x
 small-fits (pos n) h = record { sfits = omega arith }
 small-fits (negsuc n) h = record { sfits = omega arith }
+
+pub sum-fits : (x y : ℤ) → natAbs x ≤ 2 ^ 59 → natAbs y ≤ 2 ^ 59 → SFits w64 (x +ℤ y)
+sum-fits x y h k = small-fits (x +ℤ y) (omega (arith, size-sum x y))
+
+-- whichever is taken from the other
+pub differences-fit : (x y : ℤ) → natAbs x ≤ 2 ^ 59 → natAbs y ≤ 2 ^ 59 → SFits w64 (x -ℤ y) × SFits w64 (y -ℤ x)
+differences-fit x y h k =
+    (sum-fits x (negℤ y) h (rw (size-negated y) k), sum-fits y (negℤ x) k (rw (size-negated x) h))

@@ -5,12 +5,12 @@ use lib.IntN.{ℤ}
 use Rattle.planner.specs.Intervals.{Intervals, N, P}
 use Rattle.planner.specs.Outcome.{distanceOf}
 use Rattle.planner.specs.declared.Move.{Move}
-use Rattle.motion.specs.Sampling.{valuesAt, sampleOf, IsCount}
+use Rattle.motion.specs.Sampling.{valuesAt}
 use Rattle.motion.specs.Demand3.{KeptSnap, Kept}
 use Rattle.motion.specs.Inner.Planned.{directedPosition}
 use Rattle.motion.specs.declared.Sample.{Sample}
 use Rattle.motion.proofs.IntegerLaws.{not-below-zero, pos-below}
-use Rattle.motion.proofs.CountLaws.{one-count}
+use Rattle.motion.proofs.RoundedValues.{withRounding}
 use Rattle.motion.proofs.KeptRules.{Keeps}
 use Rattle.motion.proofs.SumsFromRest as sums
 use Rattle.motion.proofs.BoundRules as bounds
@@ -18,16 +18,16 @@ use Rattle.motion.proofs.HalfCountRule as half
 use Rattle.motion.proofs.RestLaws as rest
 use Rattle.motion.proofs.EndRule.{count-end}
 
--- the values in the direction of X, with a count for each sample
-module _ (X : ℤ) (t : Intervals) (D : ℕ) (count : ℕ → ℤ) where
+-- the values in the direction of X, rounded
+module _ (X : ℤ) (t : Intervals) (D : ℕ) where
   abbrev pub sampleAt : ℕ → Sample
-  sampleAt k = sampleOf (valuesAt X t D k) (count k)
+  sampleAt k = withRounding (valuesAt X t D k)
 
-module _ {m : Move} {t : Intervals} {D short : ℕ} (f : Keeps m t D short) (count : ℕ → ℤ) where
+module _ {m : Move} {t : Intervals} {D short : ℕ} (f : Keeps m t D short) where
   abbrev X : ℤ
   X = m .displacement
 
-  pub kept-snap : KeptSnap m (N t) (sampleAt X t D count)
+  pub kept-snap : KeptSnap m (N t) (sampleAt X t D)
   kept-snap =
       record {
         jerk-rest = sums.jerk-rest X t D;
@@ -35,10 +35,8 @@ module _ {m : Move} {t : Intervals} {D short : ℕ} (f : Keeps m t D short) (cou
         snap-bound = λ k l. bounds.snap-bound (f .ordered) (f .bounds) k;
       }
 
-  pub kept :
-      ((k : ℕ) → IsCount (valuesAt X t D k .position) (count k))
-      → Kept m (N t) (P t) (directedPosition X t (distanceOf m)) (sampleAt X t D count)
-  kept count-is =
+  pub kept : Kept m (N t) (P t) (directedPosition X t (distanceOf m)) (sampleAt X t D)
+  kept =
       let o = f .ordered in
       let last = le-refl (N t) in
       record {
@@ -60,5 +58,5 @@ module _ {m : Move} {t : Intervals} {D short : ℕ} (f : Keeps m t D short) (cou
         jerk-end = rest.jerk-rests X o D (N t) last;
         acceleration-end = rest.acceleration-rests X o D (N t) last;
         velocity-end = rest.velocity-rests X o D (N t) last;
-        count-end = one-count _ _ _ (count-is (N t)) (count-end f);
+        count-end = count-end f;
       }

@@ -1,7 +1,8 @@
--- Signed numbers, and the count of a position.
+-- Signed numbers, and the count and the remainder of a position.
 pub mod IntegerLaws
 pub mod CountLaws
 pub mod RoundingLaws
+pub mod RoundedValues
 -- The snap at a sample, the sums from rest, and that none leaves its range.
 pub mod OrderedLaws
 pub mod RestLaws
@@ -40,6 +41,7 @@ pub mod RestAxis
 pub mod Demand3Axes
 pub mod AxesTheorems
 pub mod SampleOfOne
+pub mod EndRemainder
 pub mod ExactProfile
 pub mod EitherDirection
 pub mod PlayedTable

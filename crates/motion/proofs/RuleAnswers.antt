@@ -11,12 +11,11 @@ use Rattle.planner.specs.Claims.{Accepted, mirrored}
 use Rattle.planner.specs.declared.Move.{Move}
 use Rattle.planner.proofs.Mirror.{mirror}
 use Rattle.planner.proofs.StarredMoves.{firstStarred, first-accepted}
-use Rattle.motion.specs.Sampling.{valuesOf, sampleWith, Samples}
+use Rattle.motion.specs.Sampling.{valuesOf}
 use Rattle.motion.specs.Tables.{rowsFrom, tableOf, tableResult, Fills, FillsPositions}
 use Rattle.motion.specs.Demand3.{Demand3}
-use Rattle.motion.specs.declared.Sample.{Sample}
-use Rattle.motion.proofs.RoundingLaws.{count-of}
-use Rattle.motion.proofs.Demand3.{ruleCount, demand-3}
+use Rattle.motion.proofs.SamplingLaws.{ruleSample, rule-samples}
+use Rattle.motion.proofs.Demand3.{demand-3}
 
 -- the outcome and the table of the rule itself, for any rule of rows
 module _ {A : Type 0} (m : Move) (own : List (Check ℕ)) (rows : ℕ) (row : ℕ → A) (old : List A) where
@@ -30,15 +29,6 @@ module _ {A : Type 0} (m : Move) (own : List (Check ℕ)) (rows : ℕ) (row : �
   rule-fills = record { outcome-is = refl; table-is = refl }
 
 module _ (m : Move) where
-  abbrev pub ruleSample : ℕ → Result ℕ Sample
-  ruleSample k = sampleWith m k (ruleCount m k)
-
-  pub rule-samples : (k : ℕ) → Samples m k (ruleSample k)
-  rule-samples k =
-      let t = count-of (valuesOf m k .position) in
-      record { count = t .count; count-is = t .is; outcome-is = refl }
-
-  -- so demand 3 holds of them
   abbrev pub rows : ℕ
   rows = samplesOf m + 1
 
@@ -48,10 +38,10 @@ module _ (m : Move) where
   abbrev pub positions : List ℤ
   positions = ruleTable m [] rows (λ k. valuesOf m k .position) zeros
 
-  pub rule-demand-3 : Accepted m → Demand3 m ruleSample positions
+  pub rule-demand-3 : Accepted m → Demand3 m (ruleSample m) positions
   unfolding FillsPositions
   rule-demand-3 h =
-      demand-3 m h ruleSample (λ k l. rule-samples k) zeros positions _ (le-of-eq (sym (length-replicate rows (pos 0))))
+      demand-3 m h (ruleSample m) (λ k l. rule-samples m k refl) zeros positions _ (le-of-eq (sym (length-replicate rows (pos 0))))
       (rule-fills m [] rows (λ k. valuesOf m k .position) zeros)
 
 -- closed instances, forward and backward: the first of document 01's moves, and its mirror

@@ -5,7 +5,6 @@ use Prim.Native.Nat.{ℕ, _≤_, _<_}
 use native.Mathlib.Decide.{decLe}
 use native.Mathlib.Omega.{arith}
 use borrow.Author.Tests.{lt-ltb, le-ltb}
-use lib.IntN.{ℤ}
 use Rattle.planner.specs.Intervals.{Intervals, N, D}
 use Rattle.planner.specs.Result.{Result, refused, given, padded}
 use Rattle.planner.specs.Outcome.{distanceOf, intervalsOf, samplesOf, intervalsIn, outcomeOf}
@@ -17,14 +16,13 @@ use Rattle.planner.specs.declared.Plan.{Plan}
 use Rattle.planner.proofs.Acceptance.{accepted-outcome, rule-accepted}
 use Rattle.planner.proofs.AxisLaws.{moving-rest}
 use Rattle.planner.proofs.SetOfOne.{raised-own, own-common, set-of-one}
-use Rattle.motion.specs.Sampling.{valuesAt, valuesOf, sampleOf, sampleWith, IsCount}
+use Rattle.motion.specs.Sampling.{valuesAt, valuesOf, sampleOf, sampleWith, Rounding}
 use Rattle.motion.specs.Axes.{restSample, axisValues, SamplesAxes}
 use Rattle.motion.specs.AxesClaims.{SampleOfOneClaim}
 use Rattle.motion.specs.declared.Sample.{Sample}
-use Rattle.motion.proofs.RoundingLaws.{count-of}
 use Rattle.motion.proofs.EntryLaws.{refused-first, applies, passes}
 use Rattle.motion.proofs.AxisSampling.{values-by, row-of}
-use Rattle.motion.proofs.AxesSampling.{samples-refused, samples-past, samples-given}
+use Rattle.motion.proofs.AxesSampling.{placed-rows, samples-refused, samples-past, samples-given}
 
 module _ (m : Move) (k : ℕ) where
   -- nothing is raised, so the values are the move's
@@ -51,23 +49,20 @@ module _ (m : Move) (others : List Move) (k : ℕ) where
   refused-alone : (n : ℕ) → outcomeOf m ≡ refused n → Alone (refused n)
   refused-alone n h = samples-refused 1 (m ∷ others) k (subst Planned h planned)
 
-  module _ (h : Accepted m) (c : ℤ) (is : IsCount (valuesOf m k .position) c) where
+  module _ (h : Accepted m) (r : Rounding (valuesOf m k .position)) where
     set-given : given (N (intervalsOf m)) ≡ axesResult 1 (m ∷ others)
     set-given = subst Planned (accepted-outcome m h) planned
 
-    within : k ≤ N (intervalsOf m) → Alone (given (sampleOf (valuesOf m k) c))
+    within : k ≤ N (intervalsOf m) → Alone (given (sampleOf (valuesOf m k) r))
     within l =
         samples-given 1 (m ∷ others) k set-given l
-        (record {
-          countOf = λ x. count-of x .count;
-          count-is = λ x. count-of x .is;
-          samples-are = ap (λ (x : Sample). padded mostAxes restSample (x ∷ [])) (row-of (commonSamples (m ∷ [])) m k (same-values m k h) c is);
-        })
+        (placed-rows 1 (m ∷ others) k
+        (ap (λ (x : Sample). padded mostAxes restSample (x ∷ [])) (row-of (commonSamples (m ∷ [])) m k (same-values m k h) r)))
 
     past : N (intervalsOf m) < k → Alone (refused 9)
     past = samples-past 1 (m ∷ others) k set-given
 
-    accepted-alone : Alone (sampleWith m k c)
+    accepted-alone : Alone (sampleWith m k r)
     unfolding sampleWith samplesOf
     accepted-alone =
         elim (decLe k (N (intervalsOf m))) [
@@ -77,14 +72,14 @@ module _ (m : Move) (others : List Move) (k : ℕ) where
               subst Alone (sym (applies h 9 _ _ (lt-ltb (N (intervalsOf m)) k l))) (past l)
         ]
 
-  by-outcome : (p : Result ℕ Plan) → outcomeOf m ≡ p → (c : ℤ) → IsCount (valuesOf m k .position) c → Alone (sampleWith m k c)
+  by-outcome : (p : Result ℕ Plan) → outcomeOf m ≡ p → (r : Rounding (valuesOf m k .position)) → Alone (sampleWith m k r)
   unfolding sampleWith
-  by-outcome (refused n) q c is =
+  by-outcome (refused n) q r =
       subst Alone
       (refused-first _ _ (record { outcome-is = refl }) (record { refusal = n; refused-by = q; refused-with = refl }))
       (refused-alone n q)
-  by-outcome (given x) q c is = accepted-alone (rule-accepted m .0 (subst IsPlanned (sym q) tt)) c is
+  by-outcome (given x) q r = accepted-alone (rule-accepted m .0 (subst IsPlanned (sym q) tt)) r
 
 pub sample-of-one : SampleOfOneClaim
 sample-of-one m others k o s =
-    subst (Alone m others k) (sym (s .outcome-is)) (by-outcome m others k (outcomeOf m) refl (s .count) (s .count-is))
+    subst (Alone m others k) (sym (s .outcome-is)) (by-outcome m others k (outcomeOf m) refl (s .rounding))

@@ -10,7 +10,7 @@ use Rattle.planner.specs.Result.{Result, refused, given, Check, check, firstRef
 use Rattle.planner.specs.Outcome.{distanceOf, intervalsOf}
 use Rattle.planner.specs.Axes.{raised, atRest, commonSamples, withPlace, counted, axesChecks, axesPlaces}
 use Rattle.planner.specs.declared.Move.{Move}
-use Rattle.motion.specs.Sampling.{Values, valuesAt, sampleOf, IsCount}
+use Rattle.motion.specs.Sampling.{Values, valuesAt, sampleOf, Rounding}
 use Rattle.motion.specs.Answer.{number}
 use Rattle.motion.specs.declared.Sample.{Sample}
 use Rattle.motion.specs.declared.AxesSampleAnswer.{AxesSampleAnswer}
@@ -20,7 +20,8 @@ abbrev pub restValues : Values
 restValues = record { snap = pos 0; jerk = pos 0; acceleration = pos 0; velocity = pos 0; position = pos 0 }
 
 abbrev pub restSample : Sample
-restSample = sampleOf restValues (pos 0)
+restSample =
+    record { snap = pos 0; jerk = pos 0; acceleration = pos 0; velocity = pos 0; position = pos 0; count = pos 0; remainder = pos 0 }
 
 -- One axis, where the common duration is n.
 module _ (n : ℕ) (m : Move) where
@@ -43,14 +44,13 @@ module _ (count : ℕ) (moves : List Move) (k : ℕ) where
   unfoldable pub axesSampleResult : Result (ℕ × ℕ) (Unit {0})
   axesSampleResult = firstRefusal axesSampleChecks (given tt)
 
-  -- The eight places: the values of each axis and their count.
+  -- The eight places: the values of each axis, its count and its remainder.
   pub record SamplesPlaced (o : Result (ℕ × ℕ) (Unit {0})) (samples : List Sample) : Type 0 where
-    pub countOf : (position : ℤ) → ℤ
-    pub count-is : (x : ℤ) → IsCount x (countOf x)
+    pub rounding : (position : ℤ) → Rounding position
     pub samples-are :
         samples
         ≡ axesPlaces count moves restSample
-        (λ m. let v = axisValues (commonSamples (counted count moves)) m k in sampleOf v (countOf (v .position))) o
+        (λ m. let v = axisValues (commonSamples (counted count moves)) m k in sampleOf v (rounding (v .position))) o
 
   -- What the one-sample entry of a set promises of the outcome of its answer, and of the samples beside it.
   pub record SamplesAxes (o : Result (ℕ × ℕ) (Unit {0})) (samples : List Sample) : Type 0 where

@@ -1,7 +1,7 @@
 -- What the promises of a set's entries come to, over any answers that meet them: demand 3 of every axis (`demand-3-axes`), with what its E
--- is (`axis-exact-profile`); when a sample is refused (`axes-refusals`, `refused-at-sample`); that the promise leaves one answer
--- (`one-axes-sample`) and reads the counted moves alone (`samples-counted-alone`); and that a move alone is the set of one here too
--- (`sample-of-one`).
+-- is (`axis-exact-profile`), and its remainder at the last sample (`axes-end-remainder`); when a sample is refused (`axes-refusals`,
+-- `refused-at-sample`); that the promise leaves one answer (`one-axes-sample`) and reads the counted moves alone (`samples-counted-alone`);
+-- and that a move alone is the set of one here too (`sample-of-one`).
 use mathlib.Core.List.{List, _∷_}
 use mathlib.Core.Path.{_≡_}
 use Prim.Native.Nat.{ℕ, _≤_, _<_}
@@ -9,13 +9,13 @@ use lib.ListN.{length, getD, take}
 use Rattle.planner.specs.Intervals.{P}
 use Rattle.planner.specs.Result.{Result, refused, given}
 use Rattle.planner.specs.Outcome.{intervalsOf}
-use Rattle.planner.specs.Axes.{mostAxes, raised, commonSamples, counted, PlansAxes}
+use Rattle.planner.specs.Axes.{mostAxes, restPlan, raised, commonSamples, counted, PlansAxes}
 use Rattle.planner.specs.AxesClaims.{Moving, Resting, axisAt, AcceptedAxes, CommonDuration, outcomeOfOne, placesOfOne}
 use Rattle.planner.specs.declared.Move.{Move}
 use Rattle.planner.specs.declared.Plan.{Plan}
 use Rattle.motion.specs.Sampling.{Samples}
 use Rattle.motion.specs.Axes.{restSample, axisExact, SamplesAxes, axesSampleOutcome}
-use Rattle.motion.specs.Claims.{Only, RefusedBy}
+use Rattle.motion.specs.Claims.{Only, RefusedBy, EndRemainder}
 use Rattle.motion.specs.Demand3.{KeptSnap, Kept, IsExactProfile}
 use Rattle.motion.specs.declared.Sample.{Sample}
 use Rattle.motion.specs.declared.AxesSample.{AxesSample}
@@ -51,6 +51,15 @@ module _ (count : ℕ) (moves : List Move) where
       → (sample : ℕ → Result (ℕ × ℕ) (Unit {0})) (samples : ℕ → List Sample)
       → ((k : ℕ) → k ≤ commonSamples (counted count moves) → SamplesAxes count moves k (sample k) (samples k))
       → Demand3Axes o plans sample samples
+
+  -- The same of each axis at the common N, by the shortfall of its plan in the set; at rest remainder and shortfall are 0.
+  abbrev pub AxesEndRemainderClaim : Type 0
+  AxesEndRemainderClaim =
+      length moves ≡ mostAxes
+      → (N : ℕ) (plans : List Plan) → PlansAxes count moves (given N) plans
+      → (samples : List Sample) → SamplesAxes count moves N (given tt) samples
+      → (i : ℕ) → i < count
+      → EndRemainder (axisAt moves i .displacement) (getD plans i restPlan .shortfall) (getD samples i restSample)
 
   -- A sample of an accepted set is refused exactly where k is above the common N, with 9 and place 0.
   abbrev pub AxesRefusalsClaim : Type 0

@@ -1,17 +1,21 @@
 -- What the promises of the entries come to, over any answers that meet them: one answer (`one-motion-answer`); when a call with an accepted
--- move is refused (`accepted-refusals`); that a refusal writes nothing (`untouched`); and the order of each entry's checks (`motion-order`).
+-- move is refused (`accepted-refusals`); that a refusal writes nothing (`untouched`); the order of each entry's checks (`motion-order`); and
+-- the remainder at the last sample (`end-remainder`).
 use mathlib.Core.Bool.{false}
 use mathlib.Core.List.{List, [], _∷_}
 use mathlib.Core.Logic.{_⊎_, _↔_}
 use mathlib.Core.Path.{_≡_}
-use Prim.Native.Nat.{ℕ, _+_, _≤_, _<_}
+use Prim.Native.Nat.{ℕ, _+_, _≤_, _<_, _^_}
 use lib.Ieee.{Float}
+use lib.IntN.{ℤ, pos, negℤ, natAbs}
 use lib.ListN.{length}
-use Rattle.planner.specs.Result.{Result, refused}
+use Rattle.planner.specs.Quantities.{along}
+use Rattle.planner.specs.Result.{Result, refused, given}
 use Rattle.planner.specs.Order.{InOrder}
-use Rattle.planner.specs.Outcome.{samplesOf}
+use Rattle.planner.specs.Outcome.{samplesOf, Plans}
 use Rattle.planner.specs.Claims.{Accepted}
 use Rattle.planner.specs.declared.Move.{Move}
+use Rattle.planner.specs.declared.Plan.{Plan}
 use Rattle.motion.specs.Sampling.{sampleChecks, Samples}
 use Rattle.motion.specs.ForceRows.Machine.{Machine, machineAsRead, machineInRange}
 use Rattle.motion.specs.Tables.{machineCheck, tableChecks, FillsPositions, FillsReference, FillsForce}
@@ -83,3 +87,15 @@ pub record OrderClaim (m : Move) : Type 0 where
   pub force :
       (machine : Machine Float) (rows places : ℕ)
       → InOrder (tableChecks m (machineCheck machine ∷ []) rows places) (1 ∷ 2 ∷ 3 ∷ 4 ∷ 5 ∷ 6 ∷ 7 ∷ 8 ∷ 10 ∷ [])
+
+-- No rule asks it, but a bench relies on it: at the last sample the remainder is minus the shortfall for a positive X, and plus the shortfall
+-- for a negative one. So it is below half a count in size, as the half-count rule has it.
+pub record EndRemainder (X : ℤ) (shortfall : ℕ) (last : Sample) : Type 0 where
+  pub remainder-is : last .remainder ≡ negℤ (along X (pos shortfall))
+  pub below-half : natAbs (last .remainder) < 2 ^ 39
+
+abbrev pub EndRemainderClaim : Type 0
+EndRemainderClaim =
+    (m : Move) (plan : Plan) → Plans m (given plan)
+    → (last : Sample) → Samples m (samplesOf m) (given last)
+    → EndRemainder (m .displacement) (plan .shortfall) last

@@ -1,9 +1,9 @@
--- Document 01, "The profile": the five values of a sample, and what the one-sample entry gives.
+-- Document 01, "The profile": the five values of a sample, and what the one-sample entry gives; document 02, 2: the remainder.
 use mathlib.Core.List.{List, [], _∷_, _++_}
 use mathlib.Core.Path.{_≡_}
 use Prim.Native.Nat.{ℕ, _*_, _≤_, _<_}
 use lib.Dec.{ltb}
-use lib.IntN.{ℤ, pos, natAbs, _-ℤ_, _*ℤ_}
+use lib.IntN.{ℤ, pos, natAbs, _+ℤ_, _*ℤ_}
 use Rattle.planner.specs.Quantities.{unitsPerCount, along}
 use Rattle.planner.specs.Intervals.{Intervals, p, q, r, s, D}
 use Rattle.planner.specs.Result.{Result, given, Check, check, firstRefusal}
@@ -43,21 +43,29 @@ module _ (m : Move) where
 abbrev pub unitsOf : ℤ → ℤ
 unitsOf c = pos unitsPerCount *ℤ c
 
--- "its position to the nearest count, halves away from zero": c is the count of the position x, and the only one (`one-count`).
-pub record IsCount (x c : ℤ) : Type 0 where
-  pub nearest : 2 * natAbs (x -ℤ unitsOf c) ≤ unitsPerCount
-  pub half-away : 2 * natAbs (x -ℤ unitsOf c) ≡ unitsPerCount → natAbs x < natAbs (unitsOf c)
+-- "its position to the nearest count, halves away from zero", and "the signed remainder, position minus G times the count", which "lies from
+-- −2^39 to 2^39": these are the count and the remainder of the position x, and the only ones (`one-rounding`).
+pub record RoundsTo (x count remainder : ℤ) : Type 0 where
+  pub position-is : x ≡ unitsOf count +ℤ remainder
+  pub nearest : 2 * natAbs remainder ≤ unitsPerCount
+  pub half-away : 2 * natAbs remainder ≡ unitsPerCount → natAbs x < natAbs (unitsOf count)
 
--- "these five values and the count"
-abbrev pub sampleOf : Values → (count : ℤ) → Sample
-sampleOf v count =
+pub record Rounding (x : ℤ) : Type 0 where
+  pub count : ℤ
+  pub remainder : ℤ
+  pub rounded : RoundsTo x count remainder
+
+-- "these five values and the count", and the remainder.
+abbrev pub sampleOf : (v : Values) → Rounding (v .position) → Sample
+sampleOf v r =
     record {
       snap = v .snap;
       jerk = v .jerk;
       acceleration = v .acceleration;
       velocity = v .velocity;
       position = v .position;
-      count = count;
+      count = r .count;
+      remainder = r .remainder;
     }
 
 module _ (m : Move) (k : ℕ) where
@@ -65,11 +73,10 @@ module _ (m : Move) (k : ℕ) where
   abbrev pub sampleChecks : List (Check ℕ)
   sampleChecks = checks m ++ (check 9 (ltb (samplesOf m) k) ∷ [])
 
-  unfoldable pub sampleWith : (count : ℤ) → Result ℕ Sample
-  sampleWith count = firstRefusal sampleChecks (given (sampleOf (valuesOf m k) count))
+  unfoldable pub sampleWith : Rounding (valuesOf m k .position) → Result ℕ Sample
+  sampleWith r = firstRefusal sampleChecks (given (sampleOf (valuesOf m k) r))
 
   -- What the one-sample entry promises of the outcome of its answer.
   pub record Samples (o : Result ℕ Sample) : Type 0 where
-    pub count : ℤ
-    pub count-is : IsCount (valuesOf m k .position) count
-    pub outcome-is : o ≡ sampleWith count
+    pub rounding : Rounding (valuesOf m k .position)
+    pub outcome-is : o ≡ sampleWith rounding

@@ -1,5 +1,5 @@
-// Rounding in whole numbers: division goes towards zero, so what is left over decides, on either side of zero.
-ghost use Rattle.motion.specs.Sampling.{IsCount};
+// Rounding in whole numbers: division goes towards zero, so the fraction that it leaves decides, on either side of zero.
+ghost use Rattle.motion.specs.Sampling.{RoundsTo};
 
 const UNITS_PER_COUNT: i64 = planner::UNITS_PER_COUNT as i64;
 
@@ -7,17 +7,31 @@ const HALF_COUNT: i64 = UNITS_PER_COUNT / 2;
 
 const MINUS_HALF_COUNT: i64 = -UNITS_PER_COUNT / 2;
 
-// The nearest count, halves away from zero. The remainder has the sign of the position, so neither step can leave the range.
-pub(crate) fn nearest_count(position: i64) -> i64
-    ensures { λ r. ⌜ IsCount position r ⌝ }
+// The nearest count, and the position less that count in sub-count units.
+pub(crate) struct Rounded {
+    pub count: i64,
+    pub remainder: i64,
+}
+
+// Halves go away from zero. The quotient is at most 2^23 in size and the fraction below 2^40, so no step leaves the range; G times the
+// count would, for a position of 2^63 - 2^39 or more.
+pub(crate) fn round_to_count(position: i64) -> Rounded
+    ensures { λ r. ⌜ RoundsTo position (r .count) (r .remainder) ⌝ }
 {
-    let whole = position / UNITS_PER_COUNT;
-    let remainder = position % UNITS_PER_COUNT;
-    if HALF_COUNT <= remainder {
-        return whole + 1;
+    let quotient = position / UNITS_PER_COUNT;
+    let fraction = position % UNITS_PER_COUNT;
+    if HALF_COUNT <= fraction {
+        let count = quotient + 1;
+        let remainder = fraction - UNITS_PER_COUNT;
+        return Rounded { count, remainder };
     }
-    if remainder <= MINUS_HALF_COUNT {
-        return whole - 1;
+    if fraction <= MINUS_HALF_COUNT {
+        let count = quotient - 1;
+        let remainder = fraction + UNITS_PER_COUNT;
+        return Rounded { count, remainder };
     }
-    whole
+    Rounded {
+        count: quotient,
+        remainder: fraction,
+    }
 }

@@ -31,7 +31,8 @@ ghost use Rattle.motion.specs.Axes.{SamplesAxes, axesSampleOutcome};
 ghost use Rattle.motion.specs.Tables.{FillsPositions, FillsReference, FillsForce};
 ghost use Rattle.motion.specs.Answer.{number, machineOf, sampleOutcome, tableOutcome};
 
-// The values at a sample: snap, jerk, acceleration, velocity and position in sub-count units, and the position to the nearest count.
+// The values at a sample: snap, jerk, acceleration, velocity and position in sub-count units, the position to the nearest count, and the
+// remainder, which is the position less that count, in sub-count units too.
 #[repr(C)]
 pub struct Sample {
     pub snap: i64,
@@ -40,6 +41,7 @@ pub struct Sample {
     pub velocity: i64,
     pub position: i64,
     pub count: i64,
+    pub remainder: i64,
 }
 
 // The values of an axis at rest.
@@ -50,6 +52,7 @@ const REST: Sample = Sample {
     velocity: 0,
     position: 0,
     count: 0,
+    remainder: 0,
 };
 
 // A two-mass machine, in the paper's names: masses m1 and m2, dampings k1, k2 and k12, stiffness c. Time is in samples.

@@ -1,6 +1,6 @@
 // One sample of a plan, by sums from rest.
 use crate::Sample;
-use crate::count::nearest_count;
+use crate::count::round_to_count;
 use crate::snap::Levels;
 use crate::snap::levels_of;
 use crate::snap::snap_at;
@@ -28,7 +28,7 @@ fn sum_to(plan: Plan, levels: Levels, k: u64) -> State
     state
 }
 
-// The four sums at sample k with the snap there and the count of the position.
+// The four sums at sample k with the snap there, and the position rounded.
 pub(crate) fn sample_in_plan(displacement: i64, plan: Plan, k: u64) -> Sample
     requires { ⌜ PlanInRange plan ⌝ }
     requires { ⌜ k ≤ samplesIn plan ⌝ }
@@ -36,12 +36,14 @@ pub(crate) fn sample_in_plan(displacement: i64, plan: Plan, k: u64) -> Sample
 {
     let levels = levels_of(displacement, plan.snap);
     let state = sum_to(plan, levels, k);
+    let rounded = round_to_count(state.position);
     Sample {
         snap: snap_at(plan, levels, k),
         jerk: state.jerk,
         acceleration: state.acceleration,
         velocity: state.velocity,
         position: state.position,
-        count: nearest_count(state.position),
+        count: rounded.count,
+        remainder: rounded.remainder,
     }
 }

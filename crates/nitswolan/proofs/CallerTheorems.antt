@@ -19,7 +19,7 @@ use Rattle.motion.proofs.AnswerLaws.{one-sample-outcome}
 use Rattle.motion.proofs.Demand3.{demand-3}
 use Rattle.motion.proofs.EntryLaws.{samples-are}
 use Rattle.motion.proofs.FillLaws.{filled-outcome}
-use Rattle.motion.proofs.RuleAnswers.{ruleSample, rule-samples}
+use Rattle.motion.proofs.SamplingLaws.{ruleSample, rule-samples}
 use Rattle.nitswolan.specs.Fields.{Answers, planFields, sampleFields, tableFields}
 use Rattle.nitswolan.specs.Claims.{AcceptedClaim, CallerFacts, CallerClaim}
 use Rattle.nitswolan.specs.declared.plan.PlanResult.{PlanResult}
@@ -72,11 +72,11 @@ caller-facts m x h r sample promised old new t room f =
     let a = accepted h r in
     let n = samples h r in
     let room′ : samplesOf m + 1 ≤ length old = omega (arith, n, room) in
-    let claim = demand-3 m a (ruleSample m) (λ k l. rule-samples m k) old new (f .outcome) room′ (f .promised) in
+    let claim = demand-3 m a (ruleSample m) (λ k l. rule-samples m k refl) old new (f .outcome) room′ (f .promised) in
     let fields : (k : ℕ) → k ≤ samplesOf m → sample k ≡ sampleFields (ruleSample m k) =
     λ k l.
     let p = promised k (omega (arith, l, n)) in
-    p .fields-are ∙ ap sampleFields (one-sample-outcome (p .promised) (rule-samples m k)) in
+    p .fields-are ∙ ap sampleFields (one-sample-outcome (p .promised) (rule-samples m k refl)) in
     let given-at : (k : ℕ) → k ≤ samplesOf m → sample k ≡ sampleFields (given (claim .at k)) =
     λ k l. fields k l ∙ ap sampleFields (claim .answered k l) in
     let rows = filled-all old new a room′ f in

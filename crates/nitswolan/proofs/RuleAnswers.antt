@@ -15,7 +15,8 @@ use Rattle.planner.proofs.Mirror.{mirror}
 use Rattle.planner.proofs.StarredMoves.{firstStarred, first-accepted}
 use Rattle.motion.specs.Tables.{FillsPositions}
 use Rattle.motion.specs.Sampling.{valuesOf}
-use Rattle.motion.proofs.RuleAnswers.{ruleSample, ruleResult, rule-samples, rule-fills, rows, zeros, positions}
+use Rattle.motion.proofs.SamplingLaws.{ruleSample, rule-samples}
+use Rattle.motion.proofs.RuleAnswers.{ruleResult, rule-fills, rows, zeros, positions}
 use Rattle.nitswolan.specs.Fields.{Answers, planFields, sampleFields, tableFields}
 use Rattle.nitswolan.specs.Claims.{CallerFacts}
 use Rattle.nitswolan.specs.declared.plan.PlanResult.{PlanResult}
@@ -45,7 +46,7 @@ module _ (m : Move) (h : Accepted m) where
 
   pub rule-caller-facts : CallerFacts m plan (λ k. sampleFields (ruleSample m k)) (tableFields (ruleRows m)) (positions m)
   rule-caller-facts =
-      caller-facts m plan plans not-refused (λ k. sampleFields (ruleSample m k)) (λ k l. filled-by sampleFields (rule-samples m k))
+      caller-facts m plan plans not-refused (λ k. sampleFields (ruleSample m k)) (λ k l. filled-by sampleFields (rule-samples m k refl))
       (zeros m) (positions m) (tableFields (ruleRows m)) (omega (arith, samples plans not-refused, length-replicate (rows m) (pos 0)))
       (filled-by tableFields fills)
 

@@ -8,7 +8,7 @@ use Rattle.motion.specs.declared.SampleAnswer.the-variants.{Sampled}
 use Rattle.nitswolan.specs.Fields.{sampleFields}
 
 pub sample-given :
-    {answer : SampleAnswer} {x : Sample} {snap jerk acceleration velocity position count : ℤ}
+    {answer : SampleAnswer} {x : Sample} {snap jerk acceleration velocity position count remainder : ℤ}
     → answer ≡ Sampled x
     → snap ≡ x .snap
     → jerk ≡ x .jerk
@@ -16,6 +16,7 @@ pub sample-given :
     → velocity ≡ x .velocity
     → position ≡ x .position
     → count ≡ x .count
+    → remainder ≡ x .remainder
     → record {
       refusal = 0;
       snap = snap;
@@ -24,6 +25,8 @@ pub sample-given :
       velocity = velocity;
       position = position;
       count = count;
+      remainder = remainder;
     }
     ≡ sampleFields (sampleOutcome answer)
-sample-given p snap jerk acceleration velocity position count = rw (p, snap, jerk, acceleration, velocity, position, count) refl
+sample-given p snap jerk acceleration velocity position count remainder =
+    rw (p, snap, jerk, acceleration, velocity, position, count, remainder) refl

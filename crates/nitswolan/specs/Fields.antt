@@ -2,13 +2,12 @@
 use mathlib.Core.List.{List}
 use mathlib.Core.Path.{_≡_}
 use Prim.Native.Nat.{ℕ}
-use lib.IntN.{pos}
 use Rattle.planner.specs.Intervals.{N}
 use Rattle.planner.specs.Result.{Result, refused, given}
 use Rattle.planner.specs.Outcome.{intervalsIn}
 use Rattle.planner.specs.Axes.{PlansAxes}
 use Rattle.planner.specs.declared.Plan.{Plan}
-use Rattle.motion.specs.Axes.{SamplesAxes}
+use Rattle.motion.specs.Axes.{restSample, SamplesAxes}
 use Rattle.motion.specs.declared.Sample.{Sample}
 use Rattle.route_sheet.specs.Answer.{sheetOutcome}
 use Rattle.route_sheet.specs.declared.BoundSet.{BoundSet}
@@ -44,19 +43,23 @@ planFields (given x) =
       shortfall = x .shortfall;
     }
 
-abbrev pub sampleFields : Result ℕ Sample → SampleResult
-sampleFields (refused number) =
-    record { refusal = number; snap = pos 0; jerk = pos 0; acceleration = pos 0; velocity = pos 0; position = pos 0; count = pos 0 }
-sampleFields (given x) =
+-- At a refusal these are the zeros of a sample at rest.
+abbrev pub sampleFieldsOf : (refusal : ℕ) → Sample → SampleResult
+sampleFieldsOf refusal x =
     record {
-      refusal = 0;
+      refusal = refusal;
       snap = x .snap;
       jerk = x .jerk;
       acceleration = x .acceleration;
       velocity = x .velocity;
       position = x .position;
       count = x .count;
+      remainder = x .remainder;
     }
+
+abbrev pub sampleFields : Result ℕ Sample → SampleResult
+sampleFields (refused number) = sampleFieldsOf number restSample
+sampleFields (given x) = sampleFieldsOf 0 x
 
 -- What the entries of a set promise of their answer and of the eight places beside it.
 abbrev pub PlansSet : Axes → Result (ℕ × ℕ) ℕ × List Plan → Type 0

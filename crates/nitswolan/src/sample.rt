@@ -4,7 +4,7 @@ ghost use mathlib.Core.Path.{_≡_};
 ghost use Rattle.motion.specs.Answer.{sampleOutcome};
 ghost use Rattle.nitswolan.specs.Fields.{sampleFields};
 
-// The values at a sample in sub-count units, and the position to the nearest count.
+// The values at a sample in sub-count units, the position to the nearest count, and the remainder.
 #[repr(C)]
 pub struct SampleResult {
     pub refusal: u64,
@@ -14,6 +14,7 @@ pub struct SampleResult {
     pub velocity: i64,
     pub position: i64,
     pub count: i64,
+    pub remainder: i64,
 }
 
 pub(crate) fn sample_result(answer: SampleAnswer) -> SampleResult
@@ -28,6 +29,7 @@ pub(crate) fn sample_result(answer: SampleAnswer) -> SampleResult
             velocity: sample.velocity,
             position: sample.position,
             count: sample.count,
+            remainder: sample.remainder,
         },
         SampleAnswer::Refused(refusal) => SampleResult {
             refusal: motion::refusal_number(refusal),
@@ -37,6 +39,7 @@ pub(crate) fn sample_result(answer: SampleAnswer) -> SampleResult
             velocity: 0,
             position: 0,
             count: 0,
+            remainder: 0,
         },
     }
 }

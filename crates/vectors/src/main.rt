@@ -5,13 +5,13 @@
 // `x` and hexadecimal digits in lower case. The machine's numbers m1 to c are the bits of floats. The requests and their answers:
 //
 // p X V A J S: planned a b c e D shortfall
-// s X V A J S k: sample snap jerk acceleration velocity position count
+// s X V A J S k: sample snap jerk acceleration velocity position count remainder
 // t X V A J S places first: rows R, places of the position table, sum S
 // r X V A J S places first: rows R, places of the reference table, sum S
 // f X V A J S m1 m2 k1 k2 k12 c places first: rows R, places of the force table as the bits of floats, sum S
 // b n length: read SETS MOVES sum S, or refused 11 line L sum S, or refused 12 sum S; then the report
 // P count and eight times X V A J S: planned N, or refused R place L; then eight times a b c e D shortfall
-// S count and eight times X V A J S, k: sample, or refused R place L; then eight times snap jerk acceleration velocity position count
+// S count and eight times X V A J S, k: sample, or refused R place L; then eight times the numbers of a sample, as above
 //
 // A move that is refused has `refused N` for its plan, its sample or its rows. A table is lent with the number of places that is asked for,
 // at most 4,200, and written from place `first` on, at most 12 places. The n bytes after a line of kind b are the start of a sheet's text,

@@ -69,4 +69,5 @@ pub(crate) fn write_sample(sample: Sample) {
     write_signed(sample.velocity);
     write_signed(sample.position);
     write_signed(sample.count);
+    write_signed(sample.remainder);
 }

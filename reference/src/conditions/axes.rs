@@ -1,9 +1,10 @@
 //! What the requests about sets of axes must contain.
 
-use super::{ends, joined, refusals, row, Case, Condition, Table};
+use super::{ends, joined, refusals, roundings, row, Case, Condition, Rounds, Table};
 use crate::draw::axes::WRONG_COUNTS;
 use crate::planner::{plan_axes, plan_axis, Axes, AxesPlan, AxesRefusal};
 use crate::planner::{Move, Plan, LARGEST_BOUND, MOST_AXES};
+use crate::profile::Sample;
 use crate::request::Request;
 
 pub fn plans() -> Table {
@@ -85,10 +86,10 @@ impl Set<'_> {
         })
     }
 
-    /// Whether the position of a shorter axis is at a half count, in this direction.
-    fn at_half(&self, direction: i64) -> bool {
-        let at = |place: usize| self.case.beyond_half(6 + 6 * place) == [direction, 0];
-        (0..self.own.len()).any(|place| self.own[place] < self.n() && at(place))
+    /// Whether the position and the remainder of any shorter axis are so.
+    fn any_shorter(&self, are: &Rounds) -> bool {
+        let at = |place| self.case.rounding(2 + Sample::NUMBERS * place);
+        (0..self.own.len()).any(|place| self.own[place] < self.n() && are(at(place)))
     }
 }
 
@@ -218,11 +219,10 @@ fn after_ends() -> Table {
     table
 }
 
-/// Raised axes at a half count, in both directions.
+/// What rounding does to a raised axis, at a half count and elsewhere.
 fn halves() -> Table {
-    let half = |direction| {
-        let name = format!("a raised axis at a half count, direction {direction}");
-        planned(name, move |set| set.at_half(direction))
-    };
-    [1, -1].map(half).into()
+    roundings(|name, are| {
+        let name = format!("a raised axis, {name}");
+        planned(name, move |set| set.any_shorter(&are))
+    })
 }

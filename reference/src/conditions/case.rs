@@ -2,10 +2,9 @@
 //! does not have reads as 0, empty or none.
 
 use super::axes::Set;
-use crate::draw::samples::beyond_half;
 use crate::force::{write_rows, Coefficients, Drive, Machine};
 use crate::planner::{deciding_lower_limits, deciding_searches, Intervals, Move};
-use crate::profile::Profile;
+use crate::profile::{Profile, Sample};
 use crate::request::{Outcome, Request};
 use crate::sheet::{longest_beginning, Line, Parts};
 
@@ -135,11 +134,9 @@ impl Case<'_> {
         }
     }
 
-    /// The direction of the position in this field, and how far it is beyond a half
-    /// count.
-    pub fn beyond_half(&self, field: usize) -> [i64; 2] {
-        let position = self.field(field) as i64;
-        [position.signum(), beyond_half(position)]
+    /// The position and the remainder of the sample whose numbers begin at this field.
+    pub fn rounding(&self, first: usize) -> [i64; 2] {
+        [Sample::POSITION, Sample::REMAINDER].map(|number| self.field(first + number) as i64)
     }
 
     pub fn places(&self) -> i128 {

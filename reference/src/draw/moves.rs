@@ -103,17 +103,17 @@ fn led_to(any_search: bool, random: &mut Random) -> Move {
         false => 1_024 * intervals[3] as u64,
     };
     let x = displacement(largest, random);
-    let w = UNITS_PER_COUNT * u128::from(x.unsigned_abs());
     let searches = [2, 3, 4].map(|count| match any_search {
         true => random.below(count),
         false => 0,
     });
-    let bounds = bounds(w, intervals, searches, random);
-    Move::new(x, bounds.map(|bound| bound as u64))
+    bounded(x, intervals, searches, random)
 }
 
-/// V, A, J and S for W and these intervals, each by one of its searches.
-fn bounds(w: u128, [a, b, c, e]: [u128; 4], searches: [u64; 3], random: &mut Random) -> [u128; 4] {
+/// A move of X with V, A, J and S for these intervals, each by one of its searches.
+pub fn bounded(x: i64, intervals: [u128; 4], searches: [u64; 3], random: &mut Random) -> Move {
+    let [a, b, c, e] = intervals;
+    let w = UNITS_PER_COUNT * u128::from(x.unsigned_abs());
     let velocity = bound(w, e, |n| n, random);
     let acceleration = match searches[0] {
         0 => bound(velocity, c, |n| n, random),
@@ -130,7 +130,8 @@ fn bounds(w: u128, [a, b, c, e]: [u128; 4], searches: [u64; 3], random: &mut Ran
         2 => bound(velocity, a, |n| 2 * n.pow(3), random),
         _ => bound(w, a, |n| 8 * n.pow(4), random),
     };
-    [velocity, acceleration, jerk, snap]
+    let bounds = [velocity, acceleration, jerk, snap];
+    Move::new(x, bounds.map(|bound| bound as u64))
 }
 
 /// A bound for which n is the least with bound·factor(n) ≥ target: the smallest,

@@ -1,20 +1,35 @@
 //! What is asked about a move: a sample, or a table of so many places; and a
 //! sample of a set.
 
-use super::Random;
+use super::{axes, halves, moves, Random};
 use crate::planner::{plan, plan_axes, Axes, Move, UNITS_PER_COUNT};
 use crate::profile::Profile;
 
-pub fn sample(motion: &Move, random: &mut Random) -> u64 {
-    match Profile::of(motion) {
+/// Any move and a sample.
+pub fn of_move(random: &mut Random) -> (Move, u64) {
+    if random.once_in(16) {
+        return halves::of_move(random);
+    }
+    let motion = moves::any(random);
+    let k = match Profile::of(&motion) {
         Ok(profile) => of_profile(&profile, random),
         Err(_) => random.log_uniform(5_000),
+    };
+    (motion, k)
+}
+
+/// Any set and a sample.
+pub fn of_axes(random: &mut Random) -> (Axes, u64) {
+    if random.once_in(16) {
+        return halves::of_axes(random);
     }
+    let axes = axes::any(random);
+    (axes, of_any_axis(&axes, random))
 }
 
 /// A sample by the profile of any moving axis; or after the end that the axis has
 /// by itself.
-pub fn sample_of_axes(axes: &Axes, random: &mut Random) -> u64 {
+fn of_any_axis(axes: &Axes, random: &mut Random) -> u64 {
     let Ok(set) = plan_axes(axes) else {
         return random.pick(&[0, 9, 4_097, u64::MAX]);
     };
@@ -50,7 +65,7 @@ fn borders(profile: &Profile) -> Vec<u64> {
     [0].into_iter().chain(ends).collect()
 }
 
-fn nearest_half(profile: &Profile) -> u64 {
+pub fn nearest_half(profile: &Profile) -> u64 {
     let distance = |position: i64| beyond_half(position).abs();
     let positions = profile.states().map(|(_, state)| state.position);
     let nearest = positions

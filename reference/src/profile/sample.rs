@@ -1,6 +1,6 @@
 //! One sample of a move, or of every axis of a set.
 
-use super::{nearest_count, Profile};
+use super::{rounded, Profile, Rounding};
 use crate::planner::{plan_axes, Axes, AxesRefusal, Move, MOST_AXES};
 
 /// What the one-sample entry says.
@@ -11,8 +11,8 @@ pub enum SampleAnswer {
     Sampled(Sample),
 }
 
-/// The five values in units, and the position in counts. In C's layout, as the
-/// library gives it.
+/// The five values in units, the position in counts, and the units that the counts
+/// leave over. In C's layout, as the library gives it.
 #[repr(C)]
 #[derive(Clone, Copy, Debug, Default, PartialEq, Eq)]
 pub struct Sample {
@@ -22,37 +22,48 @@ pub struct Sample {
     pub velocity: i64,
     pub position: i64,
     pub count: i64,
+    pub remainder: i64,
 }
 
 impl Sample {
-    /// Snap, jerk, acceleration, velocity and position.
-    pub fn values(&self) -> [i64; 5] {
+    /// How many numbers a sample has.
+    pub const NUMBERS: usize = 7;
+    /// The places of two of them, from 0.
+    pub const POSITION: usize = 4;
+    pub const REMAINDER: usize = 6;
+
+    /// All of them: the values, the count and the remainder.
+    pub fn numbers(&self) -> [i64; Sample::NUMBERS] {
         [
             self.snap,
             self.jerk,
             self.acceleration,
             self.velocity,
             self.position,
+            self.count,
+            self.remainder,
         ]
     }
 
-    /// All six numbers: the values and the count.
-    pub fn numbers(&self) -> [i64; 6] {
-        let [snap, jerk, acceleration, velocity, position] = self.values();
-        [snap, jerk, acceleration, velocity, position, self.count]
+    /// Snap, jerk, acceleration, velocity and position.
+    pub fn values(&self) -> [i64; 5] {
+        let [values @ .., _, _] = self.numbers();
+        values
     }
 
     /// The values at a sample from 0 to N, summed from rest.
     fn of(profile: &Profile, k: u64) -> Sample {
         let asked = profile.states().nth(k as usize);
         let (snap, state) = asked.expect("samples 0 to N are there");
+        let Rounding { count, remainder } = rounded(state.position);
         Sample {
             snap,
             jerk: state.jerk,
             acceleration: state.acceleration,
             velocity: state.velocity,
             position: state.position,
-            count: nearest_count(state.position),
+            count,
+            remainder,
         }
     }
 }

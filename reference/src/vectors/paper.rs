@@ -1,5 +1,6 @@
 //! Requests about document 01's own values: its moves in both directions, the first
-//! one's samples and tables, the three forces, the sheet; and its moves as axes.
+//! one's samples and tables, a half count of the second, the three forces, the sheet;
+//! and its moves as axes.
 
 use crate::draw::paper;
 use crate::planner::Axes;
@@ -13,6 +14,8 @@ pub fn requests() -> Vec<Request> {
     let first = moves[0];
     let mut list: Vec<Request> = moves.into_iter().map(Request::Plan).collect();
     list.extend((0..=8).map(|k| Request::Sample(first, k)));
+    // At sample 4 the second is at half a count, which rounds to 1, and backward to -1.
+    list.extend([moves[1], moves[9]].map(|second| Request::Sample(second, 4)));
     list.push(Request::Positions(first, PLACES));
     list.push(Request::Reference(first, PLACES));
     list.extend(paper::machines().map(|machine| Request::Force(first, machine, PLACES)));

@@ -11,7 +11,7 @@ use Rattle.planner.specs.Result.{Result, refused, given, Check, check, firstRef
 use Rattle.planner.specs.Outcome.{mostSamples, intervalsIn}
 use Rattle.planner.specs.Inner.Facts.{Ordered}
 use Rattle.planner.specs.declared.Plan.{Plan}
-use Rattle.motion.specs.Sampling.{valuesAt, sampleOf, IsCount}
+use Rattle.motion.specs.Sampling.{valuesAt, sampleOf, Rounding}
 use Rattle.motion.specs.Tables.{rowsFrom, tableOf}
 use Rattle.motion.specs.ForceRows.Machine.{Machine, machineAsRead}
 use Rattle.motion.specs.ForceRows.Doubled.{Doubled, doubledValues}
@@ -43,10 +43,10 @@ module _ (X : ℤ) (t : Intervals) (D : ℕ) where
   abbrev pub directedPosition : ℕ → ℤ
   directedPosition k = valuesAt X t D k .position
 
-  -- The five values at sample k, and the count of the position.
+  -- The five values at sample k, and the position rounded.
   pub record IsSample (k : ℕ) (r : Sample) : Type 0 where
-    pub sample-is : r ≡ sampleOf (valuesAt X t D k) (r .count)
-    pub count-is : IsCount (valuesAt X t D k .position) (r .count)
+    pub rounding : Rounding (valuesAt X t D k .position)
+    pub sample-is : r ≡ sampleOf (valuesAt X t D k) rounding
 
   -- The doubled numbers of a plan's rows.
   abbrev pub plannedNumbers : ℕ → Doubled ℤ

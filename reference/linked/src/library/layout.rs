@@ -1,5 +1,5 @@
-//! The types of `include/nitswolan.h`. The six numbers of a plan, or of a sample, lie
-//! one after the other, whether the header names them as a struct or one by one.
+//! The types of `include/nitswolan.h`. The numbers of a plan, or of a sample, lie one
+//! after the other, whether the header names them as a struct or one by one.
 
 use reference::planner::{Plan, MOST_AXES};
 use reference::profile::Sample;

@@ -50,7 +50,25 @@ impl Entries for UnusedPlace {
 
 #[test]
 fn an_unused_place_that_is_not_0() {
-    assert_found(&UnusedPlace, "axes_sample", "from field 49 on [1]");
+    assert_found(&UnusedPlace, "axes_sample", "from field 56 on [1, 0]");
+}
+
+/// What division towards zero leaves of a position, not what its count does.
+struct FractionForRemainder;
+
+impl Entries for FractionForRemainder {
+    fn sample_axes(&self, axes: Axes, sample: u64) -> AxesSampleResult {
+        let mut result = Proved.sample_axes(axes, sample);
+        for at in &mut result.values {
+            at.remainder = at.position % (1 << 40);
+        }
+        result
+    }
+}
+
+#[test]
+fn a_remainder_of_division() {
+    assert_found(&FractionForRemainder, "axes_sample", "from field 8 on");
 }
 
 /// 9 after the end that the first axis has by itself.

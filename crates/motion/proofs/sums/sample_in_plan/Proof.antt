@@ -12,7 +12,7 @@ use Rattle.planner.specs.Outcome.{intervalsIn}
 use Rattle.profile.specs.Inner.Widths.{snapBy}
 use Rattle.motion.specs.declared.snap.Levels.{Levels}
 use Rattle.motion.specs.declared.state.State.{State}
-use Rattle.motion.specs.Sampling.{IsCount}
+use Rattle.motion.specs.Sampling.{RoundsTo}
 use Rattle.motion.specs.Inner.Planned.{widthsOf, directedSnap}
 use Rattle.motion.specs.Inner.SnapLevels.{AreLevels}
 use Rattle.motion.specs.Inner.Steps.{StepsFitBy, stateAt}
@@ -49,11 +49,11 @@ sum-to-requires c κs =
     subst (λ (f : ℕ → ℤ). StepsFitBy f (c .before .args .k)) (sym (levels c))
     (record { step-fits = λ i l. step-fits (c .before .args .displacement) _ _ (p .0) i (omega (arith, l, p .1, p .0 .samples)) })
 
+round-to-count-requires : tie.Need-round-to-count-requires
+round-to-count-requires c κs = search needs
+
 snap-at-requires : tie.Need-snap-at-requires
 snap-at-requires c κs = search needs
-
-nearest-count-requires : tie.Need-nearest-count-requires
-nearest-count-requires c κs = search needs
 
 -- the state and the snap that were found
 state :
@@ -66,27 +66,33 @@ state c =
 
 snap :
     (c : tie.After-snap-at)
-    → c .snap-at .result
-    ≡ snapOf (c .before .before .before .args .displacement) (c .before .before .before .args .plan)
-    (c .before .before .before .args .k)
-snap c = c .snap-at .ensures ∙ ap (λ (f : ℕ → ℤ). f (c .before .before .before .args .k)) (levels (c .before .before))
+    → let b = c .before .before .before .before .before in
+    c .snap-at .result ≡ snapOf (b .args .displacement) (b .args .plan) (b .args .k)
+snap c =
+    let d = c .before .before .before .before in
+    c .snap-at .ensures ∙ ap (λ (f : ℕ → ℤ). f (d .before .args .k)) (levels d)
 
 returns : tie.Need-returns
 returns c =
-    let b = c .before .before .before in
-    let d = b .before in
-    let g = c .struct-told2 .given in
+    let b = c .before .before in
+    let d = b .before .before .before in
+    let g = c .before .struct-told2 .given in
     let x = d .sum-to .result in
-    let n = c .before .nearest-count in
+    let n = b .before .round-to-count in
+    let h = c .struct-told3 .given in
     let snap-is = toZ-ofZ {w = w64} {z = b .snap-at .result} (record { sfits = b .snap-at .ok }) ∙ snap b in
     let jerk-is = toZ-ofZ {w = w64} {z = x .jerk} (record { sfits = g .1 .0 .1 }) ∙ ap (λ (s : State). s .jerk) (state d) in
     let acceleration-is =
     toZ-ofZ {w = w64} {z = x .acceleration} (record { sfits = g .1 .1 .0 .1 }) ∙ ap (λ (s : State). s .acceleration) (state d) in
     let velocity-is = toZ-ofZ {w = w64} {z = x .velocity} (record { sfits = g .1 .1 .1 .0 .1 }) ∙ ap (λ (s : State). s .velocity) (state d) in
     let position-is = toZ-ofZ {w = w64} {z = x .position} (record { sfits = g .1 .1 .1 .1 .0 .1 }) ∙ ap (λ (s : State). s .position) (state d) in
-    let count-is : IsCount (toZ w64 (ofZ w64 (x .position))) (toZ w64 (ofZ w64 (n .result))) =
-    rw (toZ-ofZ {w = w64} {z = n .result} (record { sfits = n .ok })) (n .ensures) in
+    let count : ℤ = toZ w64 (ofZ w64 (n .result .count)) in
+    let remainder : ℤ = toZ w64 (ofZ w64 (n .result .remainder)) in
+    let count-is = toZ-ofZ {w = w64} {z = n .result .count} (record { sfits = h .0 .1 }) in
+    let remainder-is = toZ-ofZ {w = w64} {z = n .result .remainder} (record { sfits = h .1 .0 .1 }) in
+    let rounded : RoundsTo (toZ w64 (ofZ w64 (x .position))) count remainder = rw (count-is, remainder-is) (n .ensures) in
     record {
+      rounding = record { count = count; remainder = remainder; rounded = subst (λ y. RoundsTo y count remainder) position-is rounded };
       sample-is = λ i.
           record {
             snap = snap-is i;
@@ -94,12 +100,12 @@ returns c =
             acceleration = acceleration-is i;
             velocity = velocity-is i;
             position = position-is i;
-            count = toZ w64 (ofZ w64 (n .result));
+            count = count;
+            remainder = remainder;
           };
-      count-is = subst (λ y. IsCount y (toZ w64 (ofZ w64 (n .result)))) position-is count-is;
     }
 
 pub sample-in-plan-spec : {M : Type 1} → statement M
 sample-in-plan-spec =
     tie.close
-    (tie.spec levels-of-requires sum-to-requires snap-at-requires nearest-count-requires returns)
+    (tie.spec levels-of-requires sum-to-requires round-to-count-requires snap-at-requires returns)

@@ -35,6 +35,7 @@ returns c =
     (kept (x .velocity) (g .1 .1 .1 .0 .1))
     (kept (x .position) (g .1 .1 .1 .1 .0 .1))
     (kept (x .count) (g .1 .1 .1 .1 .1 .0 .1))
+    (kept (x .remainder) (g .1 .1 .1 .1 .1 .1 .0 .1))
 
 returns-2 : tie.Need-returns-2
 returns-2 c = rw (c .before .before .answer2 .given .1, c .refusal-number .ensures) refl

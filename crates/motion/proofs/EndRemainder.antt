@@ -1,0 +1,99 @@
+-- The remainder at the last sample of what the entries give: of a move, and of every axis of a set.
+use mathlib.Core.Bool.{true, false}
+use mathlib.Core.Path.{_≡_, refl, sym, ap, subst, _∙_}
+use mathlib.Core.List.{List}
+use Prim.Native.Nat.{ℕ, _<_}
+use native.Mathlib.Nat.{le-refl}
+use native.Mathlib.Omega.{arith}
+use lib.IntN.{ℤ, pos, negsuc, negℤ}
+use lib.ListN.{length, take, getD}
+use Rattle.planner.specs.Quantities.{along}
+use Rattle.planner.specs.Intervals.{N, D}
+use Rattle.planner.specs.Result.{Each}
+use Rattle.planner.specs.Outcome.{distanceOf, intervalsOf, intervalsIn, samplesOf}
+use Rattle.planner.specs.Axes.{restPlan, raised, atRest, axisPlan, commonSamples}
+use Rattle.planner.specs.AxesClaims.{axisAt, AcceptedAxis}
+use Rattle.planner.specs.declared.Move.{Move}
+use Rattle.planner.specs.declared.Plan.{Plan}
+use Rattle.planner.proofs.AxisLaws.{by-rest, chosen}
+use Rattle.planner.proofs.PlannedFacts.{planned-facts}
+use Rattle.planner.proofs.CountedLaws.{counted-at, within}
+use Rattle.planner.proofs.AxesAnswers.{all-accepted}
+use Rattle.planner.proofs.AxesAcceptance.{planned-common}
+use Rattle.planner.proofs.RaisedLaws.{raised-axis, raised-axis-samples, moving-plan}
+use Rattle.planner.proofs.ResultLaws.{same-given}
+use Rattle.motion.specs.Axes.{restSample}
+use Rattle.motion.specs.Claims.{EndRemainder, EndRemainderClaim}
+use Rattle.motion.specs.AxesClaims.{AxesEndRemainderClaim}
+use Rattle.motion.specs.declared.Sample.{Sample}
+use Rattle.motion.proofs.RoundedValues.{withRounding}
+use Rattle.motion.proofs.EntryLaws.{samples-are, values-are}
+use Rattle.motion.proofs.KeptRules.{keeps}
+use Rattle.motion.proofs.KeptLaws.{sampleAt}
+use Rattle.motion.proofs.EndRule.{remainder-end}
+use Rattle.motion.proofs.Demand3.{sampled}
+use Rattle.motion.proofs.AxisSampling.{axisRow, resting-row, values-by}
+use Rattle.motion.proofs.AxesSampling.{sampled-row}
+use Rattle.motion.proofs.AxesSampleRuns.{most, plan-is}
+
+no-shortfall : (X : ℤ) → pos 0 ≡ negℤ (along X (pos 0))
+unfolding along
+no-shortfall (pos i) = refl
+no-shortfall (negsuc i) = refl
+
+pub end-remainder : EndRemainderClaim
+end-remainder m plan h last s =
+    let f = planned-facts h in
+    let is : last ≡ sampleAt (m .displacement) (intervalsIn plan) (plan .snap) (N (intervalsIn plan)) =
+    same-given (sampled m (f .accepted) (le-refl (samplesOf m)) s)
+    ∙ ap withRounding (sym (values-are f (samplesOf m)))
+    ∙ ap (sampleAt (m .displacement) (intervalsIn plan) (plan .snap)) (sym (samples-are f)) in
+    subst (EndRemainder (m .displacement) (plan .shortfall)) (sym is) (remainder-end (keeps f))
+
+resting-plan : (m : Move) (n : ℕ) → atRest m ≡ true → axisPlan m n ≡ restPlan
+unfolding axisPlan
+resting-plan m n h = chosen _ _ h
+
+-- one axis of accepted ones, at the common duration
+module _ (axes : List Move) (h : Each AcceptedAxis axes) (i : ℕ) (d : Move) (l : i < length axes) where
+  abbrev axis : Move
+  axis = getD axes i d
+
+  abbrev n : ℕ
+  n = commonSamples axes
+
+  abbrev AtEnd : (shortfall : ℕ) (last : Sample) → Type 0
+  AtEnd = EndRemainder (axis .displacement)
+
+  resting-end : atRest axis ≡ true → AtEnd (axisPlan axis n .shortfall) (axisRow n axis n)
+  resting-end rests =
+      let zeros : AtEnd 0 restSample = record { remainder-is = no-shortfall (axis .displacement); below-half = omega arith } in
+      subst (λ (x : Plan). AtEnd (x .shortfall) (axisRow n axis n)) (sym (resting-plan axis n rests))
+      (subst (AtEnd 0) (sym (resting-row n axis n rests)) zeros)
+
+  moving-end : atRest axis ≡ false → AtEnd (axisPlan axis n .shortfall) (axisRow n axis n)
+  moving-end moves =
+      let t = raised n (intervalsOf axis) in
+      let values = sampleAt (axis .displacement) t (D t (distanceOf axis)) in
+      let row : axisRow n axis n ≡ values (N t) =
+      ap withRounding (values-by n axis moves n) ∙ ap values (sym (raised-axis-samples axes h i d l moves)) in
+      subst (λ (x : Plan). AtEnd (x .shortfall) (axisRow n axis n)) (sym (moving-plan axis n moves))
+      (subst (AtEnd _) (sym row) (remainder-end (keeps (raised-axis axes h i d l moves))))
+
+  axis-end : AtEnd (axisPlan axis n .shortfall) (axisRow n axis n)
+  axis-end = by-rest axis resting-end moving-end
+
+pub axes-end-remainder : (count : ℕ) (moves : List Move) → AxesEndRemainderClaim count moves
+axes-end-remainder count moves sent N plans p samples s i c =
+    let axes = take count moves in
+    let n = commonSamples axes in
+    let l = within count moves sent (most sent p) i c in
+    let same = counted-at count moves i c in
+    let common = planned-common count moves p in
+    let row : getD samples i restSample ≡ axisRow n (axisAt moves i) n =
+    sampled-row count moves N (p .outcome-is) s (le-refl N) i _ l
+    ∙ ap (λ (m : Move). axisRow n m N) same ∙ ap (axisRow n (axisAt moves i)) common in
+    subst (EndRemainder (axisAt moves i .displacement) (getD plans i restPlan .shortfall)) (sym row)
+    (subst (λ (x : Plan). EndRemainder (axisAt moves i .displacement) (x .shortfall) (axisRow n (axisAt moves i) n)) (sym (plan-is sent p c))
+    (subst (λ (m : Move). EndRemainder (m .displacement) (axisPlan m n .shortfall) (axisRow n m n)) same
+    (axis-end axes (all-accepted count moves (p .outcome-is)) i _ l)))
