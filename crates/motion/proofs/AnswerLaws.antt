@@ -4,18 +4,18 @@ use mathlib.Core.Path.{_≡_, refl, sym, ap, ap₂, _∙_}
 use Prim.Native.Nat.{ℕ}
 use native.Mathlib.Omega.{arith}
 use lib.Ieee.{Float}
-use Rattle.planner.specs.Result.{Result, given, Check, firstRefusal}
+use Rattle.planner.specs.Result.{Result, Check}
 use Rattle.planner.specs.declared.Move.{Move}
 use Rattle.planner.proofs.Clash.{clash}
 use Rattle.planner.proofs.ResultLaws.{refused-or-given, same-refused, same-given}
 use Rattle.planner.proofs.AnswerLaws as planner
-use Rattle.motion.specs.Sampling.{sampleChecks, sampleWith, Samples}
+use Rattle.motion.specs.Sampling.{Samples}
 use Rattle.motion.specs.ForceRows.Force.{rigid, filtered}
 use Rattle.motion.specs.Tables.{Fills, FillsPositions, FillsReference, FillsForce}
 use Rattle.motion.specs.Answer.{number, sampleOutcome, tableOutcome}
 use Rattle.motion.specs.Claims.{OneAnswerClaim}
 use Rattle.motion.specs.Inner.Rows.{driveKind}
-use Rattle.motion.proofs.RoundedValues.{one-rounded-sample}
+use Rattle.motion.proofs.SamplingLaws.{only-sample}
 use Rattle.motion.specs.declared.Sample.{Sample}
 use Rattle.motion.specs.declared.force.drive.Drive.{Drive}
 use Rattle.motion.specs.declared.force.drive.Drive.the-variants.{Rigid, Filtered}
@@ -75,10 +75,7 @@ drive-injective (Filtered a b) (Filtered c d) h = let same = same-filter a b c d
 -- so a promise leaves one answer
 module _ {m : Move} {k : ℕ} where
   pub one-sample-outcome : {o p : Result ℕ Sample} → Samples m k o → Samples m k p → o ≡ p
-  unfolding sampleWith
-  one-sample-outcome h l =
-      let same = one-rounded-sample _ (h .rounding) ∙ sym (one-rounded-sample _ (l .rounding)) in
-      h .outcome-is ∙ ap (λ (x : Sample). firstRefusal (sampleChecks m k) (given x)) same ∙ sym (l .outcome-is)
+  one-sample-outcome h l = only-sample m k h ∙ sym (only-sample m k l)
 
   pub one-sample-answer : (x y : SampleAnswer) → Samples m k (sampleOutcome x) → Samples m k (sampleOutcome y) → x ≡ y
   one-sample-answer x y h l = sample-injective x y (one-sample-outcome h l)

@@ -19,16 +19,13 @@ use Rattle.motion.specs.Inner.PlannedAxes.{AxisInRange, IsAxisSample}
 use Rattle.motion.specs.declared.Sample.{Sample}
 use Rattle.motion.specs.declared.AxesSample.{AxesSample}
 use Rattle.motion.specs.declared.AxesSampleAnswer.the-variants.{Sampled}
-use Rattle.motion.proofs.AxisSampling.{axisRow, is-row, axis-in-range}
-use Rattle.motion.proofs.AxesSampling.{placed-rows, samples-given}
+use Rattle.motion.proofs.AxisSampling.{is-row, axis-in-range}
+use Rattle.motion.proofs.AxesSampling.{row, placed-rows, samples-given}
 
--- the row of an axis at sample k, and the places of so many
+-- the places of so many axes at sample k
 module _ (count : ℕ) (moves : List Move) (k : ℕ) where
-  abbrev row : Move → Sample
-  row m = axisRow (commonSamples (take count moves)) m k
-
   abbrev rows : List Move → List Sample
-  rows axes = padded mostAxes restSample (map row axes)
+  rows axes = padded mostAxes restSample (map (row count moves k) axes)
 
   -- the places before i hold the rule's rows
   pub record SampledSoFar (sampled : AxesSample) (i : ℕ) : Type 0 where

@@ -24,7 +24,7 @@ module _ (count : ℕ) (moves : List Move) where
 
   module _ (k : ℕ) where
     -- the rule's own rows are placed, and no others
-    abbrev row : Move → Sample
+    abbrev pub row : Move → Sample
     row m = axisRow (commonSamples axes) m k
 
     module _ {o : Result (ℕ × ℕ) (Unit {0})} {samples : List Sample} where

@@ -1,7 +1,7 @@
 -- Demand 3: the theorem `demand-3` proves the claim of specs/Demand3.antt. It rests on the rules (planner), on the laws of the profile
 -- (profile) and on the promises of the entries alone.
 use mathlib.Core.List.{List}
-use mathlib.Core.Path.{_≡_, ap, _∙_}
+use mathlib.Core.Path.{_≡_, _∙_}
 use Prim.Native.Nat.{ℕ, _+_, _≤_, _<_}
 use native.Mathlib.Omega.{arith}
 use borrow.Author.Tests.{le-ltb}
@@ -16,8 +16,9 @@ use Rattle.motion.specs.Sampling.{valuesOf, exactPositionTimesP, sampleW
 use Rattle.motion.specs.Tables.{FillsPositions}
 use Rattle.motion.specs.Demand3.{Demand3Claim}
 use Rattle.motion.specs.declared.Sample.{Sample}
-use Rattle.motion.proofs.RoundedValues.{withRounding, one-rounded-sample}
+use Rattle.motion.proofs.RoundedValues.{withRounding}
 use Rattle.motion.proofs.EntryLaws.{passes}
+use Rattle.motion.proofs.SamplingLaws.{only-sample}
 use Rattle.motion.proofs.FillLaws.{filled-places, filled-row}
 use Rattle.motion.proofs.KeptRules.{keeps}
 use Rattle.motion.proofs.KeptLaws.{kept-snap, kept}
@@ -30,10 +31,7 @@ module _ (m : Move) where
   -- what the one-sample entry gives
   pub sampled : Accepted m → {k : ℕ} {o : Result ℕ Sample} → k ≤ samplesOf m → Samples m k o → o ≡ given (ruleAt k)
   unfolding sampleWith
-  sampled h {k} l p =
-      p .outcome-is
-      ∙ passes h 9 _ _ (le-ltb (samplesOf m) k l)
-      ∙ ap given (one-rounded-sample (valuesOf m k) (p .rounding))
+  sampled h {k} l p = only-sample m k p ∙ passes h 9 _ _ (le-ltb (samplesOf m) k l)
 
   -- what the table holds
   table-holds :

@@ -1,13 +1,12 @@
 -- The remainder at the last sample of what the entries give: of a move, and of every axis of a set.
 use mathlib.Core.Bool.{true, false}
-use mathlib.Core.Path.{_≡_, refl, sym, ap, subst, _∙_}
+use mathlib.Core.Path.{_≡_, sym, ap, subst, _∙_}
 use mathlib.Core.List.{List}
 use Prim.Native.Nat.{ℕ, _<_}
 use native.Mathlib.Nat.{le-refl}
 use native.Mathlib.Omega.{arith}
-use lib.IntN.{ℤ, pos, negsuc, negℤ}
+use lib.IntN.{negℤ}
 use lib.ListN.{length, take, getD}
-use Rattle.planner.specs.Quantities.{along}
 use Rattle.planner.specs.Intervals.{N, D}
 use Rattle.planner.specs.Result.{Each}
 use Rattle.planner.specs.Outcome.{distanceOf, intervalsOf, intervalsIn, samplesOf}
@@ -15,12 +14,13 @@ use Rattle.planner.specs.Axes.{restPlan, raised, atRest, axisPlan, commonSample
 use Rattle.planner.specs.AxesClaims.{axisAt, AcceptedAxis}
 use Rattle.planner.specs.declared.Move.{Move}
 use Rattle.planner.specs.declared.Plan.{Plan}
-use Rattle.planner.proofs.AxisLaws.{by-rest, chosen}
+use Rattle.planner.proofs.AxisLaws.{by-rest}
+use Rattle.planner.proofs.DirectionLaws.{along-zero}
 use Rattle.planner.proofs.PlannedFacts.{planned-facts}
 use Rattle.planner.proofs.CountedLaws.{counted-at, within}
 use Rattle.planner.proofs.AxesAnswers.{all-accepted}
 use Rattle.planner.proofs.AxesAcceptance.{planned-common}
-use Rattle.planner.proofs.RaisedLaws.{raised-axis, raised-axis-samples, moving-plan}
+use Rattle.planner.proofs.RaisedLaws.{raised-axis, raised-axis-samples, resting-plan, moving-plan}
 use Rattle.planner.proofs.ResultLaws.{same-given}
 use Rattle.motion.specs.Axes.{restSample}
 use Rattle.motion.specs.Claims.{EndRemainder, EndRemainderClaim}
@@ -36,11 +36,6 @@ use Rattle.motion.proofs.AxisSampling.{axisRow, resting-row, values-by}
 use Rattle.motion.proofs.AxesSampling.{sampled-row}
 use Rattle.motion.proofs.AxesSampleRuns.{most, plan-is}
 
-no-shortfall : (X : ℤ) → pos 0 ≡ negℤ (along X (pos 0))
-unfolding along
-no-shortfall (pos i) = refl
-no-shortfall (negsuc i) = refl
-
 pub end-remainder : EndRemainderClaim
 end-remainder m plan h last s =
     let f = planned-facts h in
@@ -49,10 +44,6 @@ end-remainder m plan h last s =
     ∙ ap withRounding (sym (values-are f (samplesOf m)))
     ∙ ap (sampleAt (m .displacement) (intervalsIn plan) (plan .snap)) (sym (samples-are f)) in
     subst (EndRemainder (m .displacement) (plan .shortfall)) (sym is) (remainder-end (keeps f))
-
-resting-plan : (m : Move) (n : ℕ) → atRest m ≡ true → axisPlan m n ≡ restPlan
-unfolding axisPlan
-resting-plan m n h = chosen _ _ h
 
 -- one axis of accepted ones, at the common duration
 module _ (axes : List Move) (h : Each AcceptedAxis axes) (i : ℕ) (d : Move) (l : i < length axes) where
@@ -67,7 +58,7 @@ module _ (axes : List Move) (h : Each AcceptedAxis axes) (i : ℕ) (d : Move) (l
 
   resting-end : atRest axis ≡ true → AtEnd (axisPlan axis n .shortfall) (axisRow n axis n)
   resting-end rests =
-      let zeros : AtEnd 0 restSample = record { remainder-is = no-shortfall (axis .displacement); below-half = omega arith } in
+      let zeros : AtEnd 0 restSample = record { remainder-is = sym (ap negℤ (along-zero (axis .displacement))); below-half = omega arith } in
       subst (λ (x : Plan). AtEnd (x .shortfall) (axisRow n axis n)) (sym (resting-plan axis n rests))
       (subst (AtEnd 0) (sym (resting-row n axis n rests)) zeros)
 

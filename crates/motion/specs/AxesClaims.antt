@@ -52,7 +52,7 @@ module _ (count : ℕ) (moves : List Move) where
       → ((k : ℕ) → k ≤ commonSamples (counted count moves) → SamplesAxes count moves k (sample k) (samples k))
       → Demand3Axes o plans sample samples
 
-  -- The same of each axis at the common N, by the shortfall of its plan in the set; at rest remainder and shortfall are 0.
+  -- The remainder of each axis at the common N, by the shortfall of its plan in the set; at rest both are 0.
   abbrev pub AxesEndRemainderClaim : Type 0
   AxesEndRemainderClaim =
       length moves ≡ mostAxes

@@ -15,11 +15,10 @@ use Rattle.planner.proofs.Acceptance.{acceptance}
 use Rattle.planner.proofs.PlannedFacts.{planned-facts}
 use Rattle.planner.proofs.RuleRefusals.{refused-most}
 use Rattle.motion.specs.Tables.{FillsPositions}
-use Rattle.motion.proofs.AnswerLaws.{one-sample-outcome}
 use Rattle.motion.proofs.Demand3.{demand-3}
 use Rattle.motion.proofs.EntryLaws.{samples-are}
 use Rattle.motion.proofs.FillLaws.{filled-outcome}
-use Rattle.motion.proofs.SamplingLaws.{ruleSample, rule-samples}
+use Rattle.motion.proofs.SamplingLaws.{ruleSample, rule-samples, only-sample}
 use Rattle.nitswolan.specs.Fields.{Answers, planFields, sampleFields, tableFields}
 use Rattle.nitswolan.specs.Claims.{AcceptedClaim, CallerFacts, CallerClaim}
 use Rattle.nitswolan.specs.declared.plan.PlanResult.{PlanResult}
@@ -76,7 +75,7 @@ caller-facts m x h r sample promised old new t room f =
     let fields : (k : ℕ) → k ≤ samplesOf m → sample k ≡ sampleFields (ruleSample m k) =
     λ k l.
     let p = promised k (omega (arith, l, n)) in
-    p .fields-are ∙ ap sampleFields (one-sample-outcome (p .promised) (rule-samples m k refl)) in
+    p .fields-are ∙ ap sampleFields (only-sample m k (p .promised)) in
     let given-at : (k : ℕ) → k ≤ samplesOf m → sample k ≡ sampleFields (given (claim .at k)) =
     λ k l. fields k l ∙ ap sampleFields (claim .answered k l) in
     let rows = filled-all old new a room′ f in

@@ -43,7 +43,6 @@ planFields (given x) =
       shortfall = x .shortfall;
     }
 
--- At a refusal these are the zeros of a sample at rest.
 abbrev pub sampleFieldsOf : (refusal : ℕ) → Sample → SampleResult
 sampleFieldsOf refusal x =
     record {
@@ -57,6 +56,7 @@ sampleFieldsOf refusal x =
       remainder = x .remainder;
     }
 
+-- The zeros at a refusal are those of a sample at rest.
 abbrev pub sampleFields : Result ℕ Sample → SampleResult
 sampleFields (refused number) = sampleFieldsOf number restSample
 sampleFields (given x) = sampleFieldsOf 0 x

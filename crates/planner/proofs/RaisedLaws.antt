@@ -1,6 +1,6 @@
 -- Laws of an axis that is raised to the common duration.
 use borrow.Author.Tests.{ne-eqb}
-use mathlib.Core.Bool.{false, true≢false}
+use mathlib.Core.Bool.{true, false, true≢false}
 use mathlib.Core.Path.{_≡_, refl, sym, ap, subst, _∙_}
 use mathlib.Core.List.{List, [], _∷_, map}
 use Prim.Native.Nat.{ℕ, zero, suc, _+_, _-_, _≤_, _<_}
@@ -62,6 +62,11 @@ module _ (axes : List Move) (h : Each AcceptedAxis axes) (i : ℕ) (d : Move) (l
 
   pub raised-axis-samples : N raisedAxis ≡ commonSamples axes
   raised-axis-samples = takes-common axis (commonSamples axes) own-samples
+
+-- the plan of an axis by the test whether it is at rest
+pub resting-plan : (m : Move) (n : ℕ) → atRest m ≡ true → axisPlan m n ≡ restPlan
+unfolding axisPlan
+resting-plan m n h = chosen _ _ h
 
 pub moving-plan : (m : Move) (n : ℕ) → atRest m ≡ false → axisPlan m n ≡ planOf (distanceOf m) (raised n (intervalsOf m))
 unfolding axisPlan
