@@ -1,6 +1,10 @@
 /*
  * nitswolan: moves of a sampling carriage, planned within bounds on velocity, acceleration, jerk and snap.
  *
+ * Plans are of fourth order and keep all four bounds, except those of the functions whose names end in _third. These are for old drives,
+ * which have no bound on the snap: their plans are of third order and keep the other three bounds. For every other drive use the fourth
+ * order. Forces, sets of axes and the report of a sheet are of fourth order only.
+ *
  * Every function takes all numbers that can be sent to it, returns, uses no heap and keeps no state. An answer's `refusal` is 0 where
  * there is none; at a refusal every other field is 0 (11 also gives its line, and a set of axes the place of the axis that is refused) and
  * every place of a table is as it was. Where several refusals apply the lowest is given, but 12 comes before 11, 13 before all others, and
@@ -14,8 +18,8 @@
  * nitswolan_fill_force needs the floating-point state that a C program starts with: rounding to nearest, subnormals kept, no exception
  * trapped. A program that is linked with -ffast-math or changes this state gets other forces, or a signal. The others use no floats.
  *
- * A unit is 2^-40 of a count (a "grain"). N is the number of samples that a move takes: the carriage is at
- * rest at sample 0 and from sample N on.
+ * A unit is 2^-40 of a count (a "grain"). N is the number of samples that a move takes: the carriage is at rest at sample 0 and from
+ * sample N on. In third order a move may take another number than in fourth.
  */
 #ifndef NITSWOLAN_H
 #define NITSWOLAN_H
@@ -30,7 +34,7 @@ extern "C" {
 /* Units in a count. */
 #define NITSWOLAN_UNITS_PER_COUNT INT64_C(1099511627776)
 
-/* The most samples that a move may take, and the places of a table that is long enough for every move. */
+/* The most samples that a move may take, in either order, and the places of a table that is long enough for every move. */
 #define NITSWOLAN_MOST_SAMPLES 4096
 #define NITSWOLAN_MOST_POSITIONS (NITSWOLAN_MOST_SAMPLES + 1)
 #define NITSWOLAN_MOST_FORCES (NITSWOLAN_MOST_SAMPLES + 2)
@@ -50,7 +54,7 @@ enum {
   NITSWOLAN_VELOCITY_RANGE = 3,     /* the bound on velocity is not in 1 to 2^50; likewise the next three */
   NITSWOLAN_ACCELERATION_RANGE = 4,
   NITSWOLAN_JERK_RANGE = 5,
-  NITSWOLAN_SNAP_RANGE = 6,
+  NITSWOLAN_SNAP_RANGE = 6,       /* never given in third order */
   NITSWOLAN_TOO_MANY_SAMPLES = 7, /* N is above 4,096 */
   NITSWOLAN_SHORT_TABLE = 8,      /* the table has fewer than N+1 places, or N+2 for forces */
   NITSWOLAN_PAST_END = 9,         /* the sample asked for is above N */
@@ -61,7 +65,7 @@ enum {
 };
 
 /* A move: the displacement in counts, and the bounds on the size of velocity, acceleration, jerk and snap in units per sample, per
- * sample squared, cubed and to the fourth. */
+ * sample squared, cubed and to the fourth. The third order does not read `snap`, which may be any number there. */
 typedef struct {
   int64_t displacement;
   uint64_t velocity;
@@ -103,10 +107,22 @@ typedef struct {
   uint64_t shortfall;
 } nitswolan_plan_result;
 
+/* A plan of third order: N, the intervals b, c and e (they sum to N), the size of the jerk, which begins in the direction of the
+ * displacement, and the shortfall in units. */
+typedef struct {
+  uint64_t refusal;
+  uint64_t samples;
+  uint64_t b;
+  uint64_t c;
+  uint64_t e;
+  uint64_t jerk;
+  uint64_t shortfall;
+} nitswolan_third_plan_result;
+
 /* The values at a sample in units; the position to the nearest count, halves away from 0; and the remainder in units, which is the position
  * minus NITSWOLAN_UNITS_PER_COUNT times the count. It lies from -2^39 to 2^39, half a count either way: above 0 where the position is
  * greater than the count, and below 0 where it is less, whatever the direction of the move. At sample N it is minus the shortfall if the
- * displacement is above 0, and plus the shortfall if it is below 0. */
+ * displacement is above 0, and plus the shortfall if it is below 0. The snap is 0 in third order. */
 typedef struct {
   uint64_t refusal;
   int64_t snap;
@@ -210,6 +226,20 @@ nitswolan_table_result nitswolan_fill_reference(nitswolan_move move, int64_t *ta
 /* Fills a table with the feedforward forces of a move on a machine, rows 0 to N+1: row k belongs to sample k and is made of values up to
  * two samples before it, so there is one row more than positions. Refusals 1 to 8 and 10. */
 nitswolan_table_result nitswolan_fill_force(nitswolan_move move, nitswolan_machine machine, double *table, size_t places);
+
+/* Plans a move in third order, for an old drive. Refusals 1 to 5 and 7. */
+nitswolan_third_plan_result nitswolan_plan_third(nitswolan_move move);
+
+/* The values of a move in third order at a sample from 0 to N. At sample 0 acceleration, velocity and position are 0, but the jerk already
+ * has the size that the plan gives; at sample N jerk, acceleration and velocity are 0. Refusals 1 to 5, 7 and 9. */
+nitswolan_sample_result nitswolan_sample_third(nitswolan_move move, uint64_t sample);
+
+/* Fills a table with the positions of a move in third order at samples 0 to N, in units. Refusals 1 to 5, 7 and 8. */
+nitswolan_table_result nitswolan_fill_positions_third(nitswolan_move move, int64_t *table, size_t places);
+
+/* Fills a table with the reference rows of a move in third order at samples 0 to N, for the feedback loop: the positions in units,
+ * undelayed. Refusals 1 to 5, 7 and 8. */
+nitswolan_table_result nitswolan_fill_reference_third(nitswolan_move move, int64_t *table, size_t places);
 
 /* Plans a set of axes. Refusals 1 to 7 and 13: 13 before all others, then 1 if every displacement is 0, both with place 0. Otherwise the
  * first axis that is refused gives its own lowest number and its place: 2 to 7, or 3 to 6 if it is at rest. */

@@ -3,6 +3,7 @@
 
 pub mod axes;
 mod case;
+mod third;
 
 pub use case::Case;
 
@@ -10,8 +11,8 @@ use crate::draw::machines::{ABOVE_LARGEST, BELOW_STIFFNESS, LEAST};
 use crate::draw::moves::{BOUND_EDGES, DISPLACEMENT_EDGES};
 use crate::draw::samples::beyond_half;
 use crate::force::{Coefficients, Drive, Machine, LARGEST_NUMBER, LEAST_STIFFNESS};
+use crate::planner::Order;
 use crate::sheet::LARGEST_TEXT;
-use std::ops::RangeInclusive;
 
 /// In words, and whether a request meets it.
 pub struct Condition {
@@ -36,22 +37,21 @@ const SEARCHES: [&str; 10] = [
     "e by W",
 ];
 
-pub fn plan() -> Table {
-    joined([refusals(1..=7), moves(), edges()])
+pub fn plan(order: Order) -> Table {
+    joined([moves(order), edges(order)])
 }
 
-pub fn sample() -> Table {
-    let samples = joined([ends(), samples()]);
-    joined([refusals(1..=7), refusals(9..=9), moves(), samples])
+pub fn sample(order: Order) -> Table {
+    joined([refusals([9]), moves(order), ends(), samples()])
 }
 
-pub fn table() -> Table {
-    joined([refusals(1..=8), moves(), places(1)])
+pub fn table(order: Order) -> Table {
+    joined([refusals([8]), moves(order), places(1)])
 }
 
 pub fn force() -> Table {
     let machines = joined([places(2), machines(), machine_edges(), rows()]);
-    joined([refusals(1..=8), refusals(10..=10), moves(), machines])
+    joined([refusals([8, 10]), moves(Order::Fourth), machines])
 }
 
 pub fn sheet() -> Table {
@@ -62,51 +62,64 @@ fn joined<const COUNT: usize>(tables: [Table; COUNT]) -> Table {
     tables.into_iter().flatten().collect()
 }
 
-fn refusals(numbers: RangeInclusive<i128>) -> Table {
+fn refusals(numbers: impl IntoIterator<Item = i128>) -> Table {
     let refused = |number| {
         let name = format!("refusal {number}");
         row(name, move |case| case.refusal() == number)
     };
-    numbers.map(refused).collect()
+    numbers.into_iter().map(refused).collect()
 }
 
-/// Both directions, the most samples and one more; each search, and each "never
-/// below", decides alone in a move that is accepted.
-fn moves() -> Table {
+/// The searches of an order, numbered 0 to 9; in third order there is no a.
+fn searches(order: Order) -> impl Iterator<Item = (usize, &'static str)> {
+    let first = if order == Order::Third { 4 } else { 0 };
+    SEARCHES.into_iter().enumerate().skip(first)
+}
+
+/// The planner's refusals; both directions, the most samples and one more; each
+/// search, and each "never below", decides alone in a move that is accepted.
+fn moves(order: Order) -> Table {
     let mut table = vec![
         accepted("X > 0", |case| case.x() > 0),
         accepted("X < 0", |case| case.x() < 0),
         accepted("N = 4,096", |case| case.n() == 4_096),
         row("N = 4,097", |case| case.n() == 4_097),
     ];
-    for (search, name) in SEARCHES.into_iter().enumerate() {
+    for (search, name) in searches(order) {
         let decides = move |case: &Case| case.decides(search);
         table.push(accepted(format!("{name} decides"), decides));
     }
-    for (interval, name) in [(1, "b"), (2, "c"), (3, "e")] {
+    // In third order b has none.
+    let limited = [(1, "b"), (2, "c"), (3, "e")].into_iter();
+    for (interval, name) in limited.skip(4 - order as usize) {
         let limits = move |case: &Case| case.limits(interval);
         table.push(accepted(format!("{name} by its lower limit"), limits));
     }
-    table
+    let own = match order {
+        Order::Third => third::moves(),
+        Order::Fourth => refusals([6]),
+    };
+    joined([refusals([1, 2, 3, 4, 5, 7]), table, own])
 }
 
 /// Each search with equality; products that do not fit 64 bits, a quotient that
-/// does not fit a float; every edge of each number.
-fn edges() -> Table {
+/// does not fit a float; every edge of each number that is read.
+fn edges(order: Order) -> Table {
     let mut table = vec![accepted("W/P in floats", |case| case.float_rounds_up())];
-    for (search, name) in SEARCHES.into_iter().enumerate() {
+    for (search, name) in searches(order) {
         let equal = move |case: &Case| case.equal(search);
         table.push(accepted(format!("{name} with equality"), equal));
-    }
-    for search in [0, 4, 7] {
-        let wraps = move |case: &Case| case.wraps(search);
-        table.push(accepted(format!("{} in 64 bits", SEARCHES[search]), wraps));
+        if [0, 4, 7].contains(&search) {
+            let wraps = move |case: &Case| case.wraps(search);
+            table.push(accepted(format!("{name} in 64 bits"), wraps));
+        }
     }
     for (edge, refusal) in DISPLACEMENT_EDGES {
         let at = move |case: &Case| case.x() == edge && case.refusal() == refusal;
         table.push(row(format!("X = {edge}"), at));
     }
-    for (place, name) in ["V", "A", "J", "S"].into_iter().enumerate() {
+    let bounds = ["V", "A", "J", "S"].into_iter().enumerate();
+    for (place, name) in bounds.take(order as usize) {
         for (edge, inside) in BOUND_EDGES {
             let refusal = 3 + place as i128;
             let decides = move |case: &Case| match inside {

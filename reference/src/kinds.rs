@@ -2,8 +2,8 @@
 //! them must contain, and how many there are.
 
 use crate::conditions::{self, Case, Condition};
-use crate::draw::{axes, axes_edges, machines, moves, samples, texts, Random};
-use crate::planner::Move;
+use crate::draw::{axes, axes_edges, machines, moves, paper, samples, texts, Random};
+use crate::planner::{Move, Order};
 use crate::request::{Outcome, Request};
 use std::vec::IntoIter;
 
@@ -19,41 +19,38 @@ pub struct Kind {
     pub conditions: fn() -> Vec<Condition>,
 }
 
-pub const KINDS: [Kind; 8] = [
+pub const KINDS: [Kind; 12] = [
     Kind {
         name: "plan",
         calls: 1_000_000,
         stored: 120,
         fixed: Vec::new,
-        draw: |random| Request::Plan(moves::any(random)),
-        conditions: conditions::plan,
+        draw: |random| Request::Plan(Order::Fourth, moves::any(Order::Fourth, random)),
+        conditions: || conditions::plan(Order::Fourth),
     },
     Kind {
         name: "sample",
         calls: 100_000,
         stored: 120,
         fixed: Vec::new,
-        draw: |random| {
-            let (motion, k) = samples::of_move(random);
-            Request::Sample(motion, k)
-        },
-        conditions: conditions::sample,
+        draw: |random| sampled(Order::Fourth, random),
+        conditions: || conditions::sample(Order::Fourth),
     },
     Kind {
         name: "positions",
         calls: 2_000,
         stored: 120,
         fixed: Vec::new,
-        draw: |random| with_places(1, random, Request::Positions),
-        conditions: conditions::table,
+        draw: |random| with_places(Order::Fourth, random, Request::Positions),
+        conditions: || conditions::table(Order::Fourth),
     },
     Kind {
         name: "reference",
         calls: 2_000,
         stored: 120,
         fixed: Vec::new,
-        draw: |random| with_places(1, random, Request::Reference),
-        conditions: conditions::table,
+        draw: |random| with_places(Order::Fourth, random, Request::Reference),
+        conditions: || conditions::table(Order::Fourth),
     },
     Kind {
         name: "force",
@@ -61,8 +58,8 @@ pub const KINDS: [Kind; 8] = [
         stored: 120,
         fixed: Vec::new,
         draw: |random| {
-            let motion = moves::any(random);
-            let places = samples::places(&motion, 2, random);
+            let motion = moves::any(Order::Fourth, random);
+            let places = samples::places(Order::Fourth, &motion, 2, random);
             Request::Force(motion, machines::any(random), places)
         },
         conditions: conditions::force,
@@ -102,16 +99,60 @@ pub const KINDS: [Kind; 8] = [
         },
         conditions: conditions::axes::samples,
     },
+    Kind {
+        name: "third_plan",
+        calls: 1_000_000,
+        stored: 40,
+        fixed: || third(|motion| Request::Plan(Order::Third, motion)),
+        draw: |random| Request::Plan(Order::Third, moves::any(Order::Third, random)),
+        conditions: || conditions::plan(Order::Third),
+    },
+    Kind {
+        name: "third_sample",
+        calls: 100_000,
+        stored: 40,
+        fixed: || third(|motion| Request::Sample(Order::Third, motion, 3)),
+        draw: |random| sampled(Order::Third, random),
+        conditions: || conditions::sample(Order::Third),
+    },
+    Kind {
+        name: "third_positions",
+        calls: 2_000,
+        stored: 40,
+        fixed: || third(|motion| Request::Positions(Order::Third, motion, 13)),
+        draw: |random| with_places(Order::Third, random, Request::Positions),
+        conditions: || conditions::table(Order::Third),
+    },
+    Kind {
+        name: "third_reference",
+        calls: 2_000,
+        stored: 40,
+        fixed: || third(|motion| Request::Reference(Order::Third, motion, 13)),
+        draw: |random| with_places(Order::Third, random, Request::Reference),
+        conditions: || conditions::table(Order::Third),
+    },
 ];
 
-/// A request for a table of N and `more` rows of any move.
+/// Requests about the worked move of third order, which differ in S alone.
+fn third(request: fn(Move) -> Request) -> Vec<Request> {
+    paper::third().map(request).to_vec()
+}
+
+/// A request for any sample of any move.
+fn sampled(order: Order, random: &mut Random) -> Request {
+    let (motion, k) = samples::of_move(order, random);
+    Request::Sample(order, motion, k)
+}
+
+/// A request for a table of N+1 rows of any move.
 fn with_places(
-    more: u64,
+    order: Order,
     random: &mut Random,
-    request: impl FnOnce(Move, u64) -> Request,
+    request: impl FnOnce(Order, Move, u64) -> Request,
 ) -> Request {
-    let motion = moves::any(random);
-    request(motion, samples::places(&motion, more, random))
+    let motion = moves::any(order, random);
+    let places = samples::places(order, &motion, 1, random);
+    request(order, motion, places)
 }
 
 /// Requests drawn in vain before the conditions that are left are given up.

@@ -1,17 +1,19 @@
-//! The planner: a move is either planned or refused with a number, and so is a
-//! set of axes.
+//! The planner: a move is either planned or refused with a number, in fourth or in
+//! third order, and so is a set of axes.
 
 mod axes;
 mod deciders;
 mod intervals;
 mod moves;
+mod orders;
 mod plans;
 
 pub use axes::{plan_axes, plan_axis, Axes, AxesPlan, AxesRefusal, MOST_AXES};
 pub use deciders::{deciding_lower_limits, deciding_searches};
 pub use intervals::{Intervals, Searches};
 pub use moves::{Move, LARGEST_BOUND, LARGEST_DISPLACEMENT, UNITS_PER_COUNT};
-pub use plans::{durations, Plan};
+pub use orders::Order;
+pub use plans::{durations, product, Plan};
 
 /// The most samples a move may take (N in the paper, row 7).
 pub const MOST_SAMPLES: u128 = 4096;
@@ -35,13 +37,10 @@ impl Answer {
 }
 
 /// Plans a move, or refuses it with the lowest number that applies.
-pub fn plan(motion: &Move) -> Answer {
-    match Intervals::of(motion) {
+pub fn plan(order: Order, motion: &Move) -> Answer {
+    match Intervals::of(order, motion) {
         Err(number) => Answer::Refused(number),
         Ok(found) if found.samples() > MOST_SAMPLES => Answer::Refused(7),
-        Ok(found) => {
-            let intervals = [found.a, found.b, found.c, found.e].map(|n| n as u64);
-            Answer::Planned(Plan::of(motion, intervals))
-        }
+        Ok(found) => Answer::Planned(Plan::of(motion, found.all())),
     }
 }

@@ -15,7 +15,7 @@ pub use sample::{sample, sample_axes, Sample, SampleAnswer};
 pub use segments::{segments, Segment, SEGMENT_COUNT};
 pub use state::State;
 
-use crate::planner::{durations, plan, Answer, Move, Plan};
+use crate::planner::{durations, plan, Answer, Move, Order, Plan};
 use std::iter;
 
 /// What a table entry says.
@@ -30,6 +30,7 @@ pub enum TableAnswer {
 
 /// The segments of a planned move, with the signs of its direction.
 pub struct Profile {
+    order: Order,
     pub segments: [Segment; SEGMENT_COUNT],
     /// The number of the last sample (N in the paper).
     pub samples: u64,
@@ -37,28 +38,34 @@ pub struct Profile {
 
 impl Profile {
     /// The profile of a move, or the planner's refusal, 1 to 7.
-    pub fn of(motion: &Move) -> Result<Profile, u8> {
-        match plan(motion) {
+    pub fn of(order: Order, motion: &Move) -> Result<Profile, u8> {
+        match plan(order, motion) {
             Answer::Refused(number) => Err(number),
-            Answer::Planned(plan) => Ok(Profile::planned(motion, &plan)),
+            Answer::Planned(plan) => Ok(Profile::planned(order, motion, &plan)),
         }
     }
 
     /// The profile of a move by its plan, or by the plan it has in a set.
-    pub fn planned(motion: &Move, plan: &Plan) -> Profile {
-        // D is at most S, which is at most 2^50. For a negative X every value
-        // changes sign; all of them are sums of snaps.
-        let snap = plan.snap as i64 * motion.displacement.signum();
+    pub fn planned(order: Order, motion: &Move, plan: &Plan) -> Profile {
+        // D is at most S, the jerk at most J, and both at most 2^50. For a negative X
+        // every value changes sign; all of them are sums of what is switched.
+        let switched = plan.switched as i64 * motion.displacement.signum();
         Profile {
-            segments: segments(durations(plan.intervals), snap),
+            order,
+            segments: segments(order, durations(plan.intervals), switched),
             samples: plan.samples(),
         }
     }
 
     /// The profile of a move for a table of N and `more` rows, if they fit this
     /// many places, or the refusal, 1 to 8.
-    pub(crate) fn fitting(motion: &Move, places: usize, more: u64) -> Result<Profile, u8> {
-        let profile = Profile::of(motion)?;
+    pub(crate) fn fitting(
+        order: Order,
+        motion: &Move,
+        places: usize,
+        more: u64,
+    ) -> Result<Profile, u8> {
+        let profile = Profile::of(order, motion)?;
         if (places as u64) < profile.samples + more {
             return Err(8);
         }
@@ -67,11 +74,12 @@ impl Profile {
 
     /// The snap and the state at each sample from 0 to N.
     pub fn states(&self) -> impl Iterator<Item = (i64, State)> + '_ {
-        let in_segment = |segment: &Segment| iter::repeat_n(segment.snap, segment.samples);
-        // The segments end at sample N-1; at N the snap is 0.
-        let snaps = self.segments.iter().flat_map(in_segment).chain([0]);
-        snaps.scan(State::REST, |state, snap| {
-            let here = *state;
+        let in_segment = |segment: &Segment| iter::repeat_n(segment.switched, segment.samples);
+        // The segments end at sample N-1; at N the snap, or the jerk, is 0.
+        let values = self.segments.iter().flat_map(in_segment).chain([0]);
+        values.scan(State::REST, |state, switched| {
+            let [snap, jerk] = self.order.highest(switched, state.jerk);
+            let here = State { jerk, ..*state };
             *state = here.next(snap);
             Some((snap, here))
         })

@@ -1,7 +1,8 @@
 //! A call of an entry, and all that the paper says it gives.
 
 use crate::force::{force_table, Machine};
-use crate::planner::{plan, plan_axes, Answer, Axes, AxesPlan, AxesRefusal, Move, Plan, MOST_AXES};
+use crate::planner::{plan, plan_axes, Answer, Axes, AxesPlan, AxesRefusal};
+use crate::planner::{Move, Order, Plan, MOST_AXES};
 use crate::profile::{position_table, reference_table, sample, sample_axes, Sample};
 use crate::profile::{SampleAnswer, TableAnswer};
 use crate::sheet::{self, SheetRefusal, MOST_MOVES, MOST_SETS};
@@ -9,10 +10,10 @@ use crate::sheet::{self, SheetRefusal, MOST_MOVES, MOST_SETS};
 /// What is sent to an entry; a table is lent with so many places.
 #[derive(Clone, Debug)]
 pub enum Request {
-    Plan(Move),
-    Sample(Move, u64),
-    Positions(Move, u64),
-    Reference(Move, u64),
+    Plan(Order, Move),
+    Sample(Order, Move, u64),
+    Positions(Order, Move, u64),
+    Reference(Order, Move, u64),
     Force(Move, Machine, u64),
     Sheet(Vec<u8>),
     PlanAxes(Axes),
@@ -40,13 +41,24 @@ impl Outcome {
 }
 
 impl Request {
+    /// The order of the plan; where it is not sent, it is the fourth.
+    pub fn order(&self) -> Order {
+        match self {
+            Request::Plan(order, _)
+            | Request::Sample(order, _, _)
+            | Request::Positions(order, _, _)
+            | Request::Reference(order, _, _) => *order,
+            _ => Order::Fourth,
+        }
+    }
+
     /// The move that is sent; a sheet and a set have many.
     pub fn motion(&self) -> Option<&Move> {
         match self {
-            Request::Plan(motion)
-            | Request::Sample(motion, _)
-            | Request::Positions(motion, _)
-            | Request::Reference(motion, _)
+            Request::Plan(_, motion)
+            | Request::Sample(_, motion, _)
+            | Request::Positions(_, motion, _)
+            | Request::Reference(_, motion, _)
             | Request::Force(motion, _, _) => Some(motion),
             Request::Sheet(_) | Request::PlanAxes(_) | Request::SampleAxes(..) => None,
         }
@@ -55,10 +67,10 @@ impl Request {
     /// The places that are lent for rows.
     pub fn places(&self) -> Option<u64> {
         match self {
-            Request::Positions(_, places)
-            | Request::Reference(_, places)
+            Request::Positions(_, _, places)
+            | Request::Reference(_, _, places)
             | Request::Force(_, _, places) => Some(*places),
-            Request::Plan(_) | Request::Sample(..) | Request::Sheet(_) => None,
+            Request::Plan(..) | Request::Sample(..) | Request::Sheet(_) => None,
             Request::PlanAxes(_) | Request::SampleAxes(..) => None,
         }
     }
@@ -66,16 +78,18 @@ impl Request {
     /// What the reference says.
     pub fn expected(&self) -> Outcome {
         match self {
-            Request::Plan(motion) => fields_alone(plan_fields(plan(motion))),
-            Request::Sample(motion, k) => fields_alone(sample_fields(sample(motion, *k))),
-            Request::Positions(motion, places) => filled(
+            Request::Plan(order, motion) => fields_alone(plan_fields(*order, motion)),
+            Request::Sample(order, motion, k) => {
+                fields_alone(sample_fields(sample(*order, motion, *k)))
+            }
+            Request::Positions(order, motion, places) => filled(
                 *places,
-                |table| position_table(motion, table),
+                |table| position_table(*order, motion, table),
                 |row: i64| row as u64,
             ),
-            Request::Reference(motion, places) => filled(
+            Request::Reference(order, motion, places) => filled(
                 *places,
-                |table| reference_table(motion, table),
+                |table| reference_table(*order, motion, table),
                 |row: i64| row as u64,
             ),
             Request::Force(motion, machine, places) => filled(
@@ -100,14 +114,15 @@ fn fields_alone(fields: Vec<i128>) -> Outcome {
     Outcome { fields, rows }
 }
 
-/// Refusal, N, a, b, c, e, D and shortfall.
-fn plan_fields(answer: Answer) -> Vec<i128> {
-    let (refusal, plan) = match answer {
+/// Refusal, N, a, b, c, e, D and shortfall; in third order the jerk for D, and no a.
+fn plan_fields(order: Order, motion: &Move) -> Vec<i128> {
+    let (refusal, plan) = match plan(order, motion) {
         Answer::Refused(number) => (number, Plan::default()),
         Answer::Planned(plan) => (0, plan),
     };
     let mut fields = vec![refusal.into(), plan.samples().into()];
-    fields.extend(plan.numbers().map(i128::from));
+    let numbers = plan.numbers().map(i128::from);
+    fields.extend(numbers.iter().skip(4 - order as usize));
     fields
 }
 

@@ -1,6 +1,7 @@
 //! The force rows, computed straight from their definition.
 
 use reference::force::{force_table, Coefficients, Doubled, Machine};
+use reference::planner::Order::Fourth;
 use reference::planner::{plan, Move};
 use reference::profile::{sample, SampleAnswer, TableAnswer};
 
@@ -29,8 +30,8 @@ fn moves() -> [Move; 3] {
 
 /// d2, j2, a2 and v2 of rows 0 to N+1.
 fn doubled(motion: &Move) -> Vec<[i64; 4]> {
-    let n = plan(motion).samples().expect("an accepted move") as i64;
-    let at = |k: i64| match sample(motion, k as u64) {
+    let n = plan(Fourth, motion).samples().expect("an accepted move") as i64;
+    let at = |k: i64| match sample(Fourth, motion, k as u64) {
         SampleAnswer::Sampled(at) => at.values(),
         SampleAnswer::Refused(_) => [0; 5], // before sample 0 or after N
     };

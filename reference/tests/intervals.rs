@@ -1,6 +1,7 @@
-//! The rules of the four intervals, read literally.
+//! The rules of the intervals, four or in third order three, read literally.
 
 use reference::least::least;
+use reference::planner::Order::{Fourth, Third};
 use reference::planner::{plan, Answer, Intervals, Move, Plan};
 
 const G: u64 = 1 << 40;
@@ -30,16 +31,34 @@ fn by_the_rules(x: i64, bounds: [u64; 4]) -> Answer {
         .max(a + b);
     let v1 = v.min(a1 * c);
     let e = counted(|n| v1 * n >= w).max(a + b + c);
-    if a + b + c + e > 4096 {
+    planned(w, a * b * c * e, [a, b, c, e])
+}
+
+/// Document 02, request 3, in third order.
+fn by_the_third_rules(x: i64, bounds: [u64; 4]) -> Answer {
+    let w = u128::from(G) * u128::from(x.unsigned_abs());
+    let [v, acc, j, _] = bounds.map(u128::from);
+    let b = counted(|n| 2 * j * n.pow(3) >= w)
+        .min(counted(|n| j * n.pow(2) >= v))
+        .min(counted(|n| j * n >= acc));
+    let a1 = acc.min(j * b);
+    let c = counted(|n| a1 * n * (b + n) >= w)
+        .min(counted(|n| a1 * n >= v))
+        .max(b);
+    let v1 = v.min(a1 * c);
+    let e = counted(|n| v1 * n >= w).max(b + c);
+    planned(w, b * c * e, [0, b, c, e])
+}
+
+/// W divided by P, and what that leaves; or 7.
+fn planned(w: u128, p: u128, intervals: [u128; 4]) -> Answer {
+    if intervals.iter().sum::<u128>() > 4096 {
         return Answer::Refused(7);
     }
-    let p = a * b * c * e;
-    let d = w / p;
-    let [snap, shortfall] = [d, w - d * p].map(|x| x as u64);
     Answer::Planned(Plan {
-        intervals: [a, b, c, e].map(|x| x as u64),
-        snap,
-        shortfall,
+        intervals: intervals.map(|n| n as u64),
+        switched: (w / p) as u64,
+        shortfall: (w % p) as u64,
     })
 }
 
@@ -54,8 +73,9 @@ fn plans_are_those_of_the_rules() {
         for choice in 0..625 {
             let bounds = [1, 5, 25, 125].map(|place| bounds[choice / place % 5]);
             for x in displacements.into_iter().flat_map(|x| [x, -x]) {
-                let answer = plan(&Move::new(x, bounds));
-                assert_eq!(answer, by_the_rules(x, bounds), "{x} {bounds:?}");
+                let answers = [Fourth, Third].map(|order| plan(order, &Move::new(x, bounds)));
+                let wanted = [by_the_rules(x, bounds), by_the_third_rules(x, bounds)];
+                assert_eq!(answers, wanted, "{x} {bounds:?}");
             }
         }
     }
@@ -63,15 +83,21 @@ fn plans_are_those_of_the_rules() {
 
 #[test]
 fn at_most_4096_samples() {
-    let samples = |x| Intervals::of(&Move::new(x, [G; 4])).map(|found| found.samples());
-    assert_eq!([samples(4092), samples(4093)], [Ok(4096), Ok(4097)]);
-    // Each property holds with equality here; any bound lowered is too slow.
-    let slowest = [1 << 29, 1 << 19, 1 << 10, 2];
-    assert_eq!(plan(&Move::new(1, slowest)).samples(), Some(4096));
-    for place in 0..4 {
-        let mut bounds = slowest;
-        bounds[place] -= 1;
-        assert_eq!(plan(&Move::new(1, bounds)), Answer::Refused(7));
+    // X, and bounds with which each property holds with equality.
+    let rows = [
+        (Fourth, 4092, [1 << 29, 1 << 19, 1 << 10, 2]),
+        (Third, 4094, [1 << 29, 1 << 19, 1 << 9, 0]),
+    ];
+    for (order, x, slowest) in rows {
+        let samples = |x| Intervals::of(order, &Move::new(x, [G; 4])).map(|found| found.samples());
+        assert_eq!([samples(x), samples(x + 1)], [Ok(4096), Ok(4097)]);
+        assert_eq!(plan(order, &Move::new(1, slowest)).samples(), Some(4096));
+        // Any bound lowered is too slow.
+        for place in 0..order as usize {
+            let mut bounds = slowest;
+            bounds[place] -= 1;
+            assert_eq!(plan(order, &Move::new(1, bounds)), Answer::Refused(7));
+        }
     }
 }
 

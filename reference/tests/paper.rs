@@ -2,6 +2,7 @@
 //! move, worked by hand.
 
 use reference::force::{force_table, Machine};
+use reference::planner::Order::Fourth;
 use reference::planner::{self, plan, Answer, Move};
 use reference::profile::TableAnswer::Refused;
 use reference::profile::{position_table, reference_table, sample, SampleAnswer};
@@ -21,7 +22,7 @@ fn machine(k12: f64, c: f64) -> Machine {
 
 /// The number of the planner's refusal; 0 for a planned move.
 fn refusal(x: i64, bounds: [u64; 4]) -> u8 {
-    match plan(&Move::new(x, bounds)) {
+    match plan(Fourth, &Move::new(x, bounds)) {
         Answer::Refused(number) => number,
         Answer::Planned(_) => 0,
     }
@@ -41,11 +42,14 @@ fn moves_to_check_by() {
     ];
     for (x, v, a, durations, n, d, short) in rows {
         for x in [x, -x] {
-            let Answer::Planned(plan) = plan(&Move::new(x, [v, a, G, G])) else {
+            let Answer::Planned(plan) = plan(Fourth, &Move::new(x, [v, a, G, G])) else {
                 panic!("{x} is refused");
             };
             assert_eq!(planner::durations(plan.intervals), durations);
-            assert_eq!([plan.samples(), plan.snap, plan.shortfall], [n, d, short]);
+            assert_eq!(
+                [plan.samples(), plan.switched, plan.shortfall],
+                [n, d, short]
+            );
         }
     }
     assert_eq!([4093, -4093].map(|x| refusal(x, [G; 4])), [7; 2]);
@@ -56,7 +60,7 @@ fn the_first_move_and_its_forces() {
     let velocity = [0, 0, 0, 1, 2, 2, 2, 1, 0];
     let position = [0, 0, 0, 0, 1, 3, 5, 7, 8];
     for k in 0..9 {
-        let SampleAnswer::Sampled(at) = sample(&first(), k as u64) else {
+        let SampleAnswer::Sampled(at) = sample(Fourth, &first(), k as u64) else {
             panic!("sample {k} is refused");
         };
         assert_eq!(at.velocity, G as i64 * velocity[k]);
@@ -77,7 +81,7 @@ fn the_second_move_and_its_remainders() {
     let remainder = [0, 0, 0, 0, -1, -1, -1, -1, -1, -1, -1, -1, 0];
     for (k, direction) in (0..13).flat_map(|k| [(k, 1), (k, -1)]) {
         let motion = Move::new(8 * direction, [G; 4]);
-        let SampleAnswer::Sampled(at) = sample(&motion, k as u64) else {
+        let SampleAnswer::Sampled(at) = sample(Fourth, &motion, k as u64) else {
             panic!("sample {k} is refused");
         };
         let worked = [position[k] << 39, count[k], remainder[k] << 39];
@@ -124,13 +128,13 @@ fn the_example_of_each_refusal() {
     assert_eq!(refusal(8, [G, G, 0, G]), 5);
     assert_eq!(refusal(8, [G, G, G, 0]), 6);
     assert_eq!(refusal(1, [1; 4]), 7);
-    assert_eq!(position_table(&first(), &mut [0; 8]), Refused(8));
-    assert_eq!(reference_table(&first(), &mut [0; 8]), Refused(8));
+    assert_eq!(position_table(Fourth, &first(), &mut [0; 8]), Refused(8));
+    assert_eq!(reference_table(Fourth, &first(), &mut [0; 8]), Refused(8));
     let force = |c, table: &mut [f64]| force_table(&first(), &machine(0.0, c), table);
     let mut table = [7.0; 9];
     assert_eq!(force(1.0, &mut table), Refused(8));
     assert_eq!(table, [7.0; 9], "a refusal writes nothing");
-    assert_eq!(sample(&first(), 9), SampleAnswer::Refused(9));
+    assert_eq!(sample(Fourth, &first(), 9), SampleAnswer::Refused(9));
     assert_eq!(force(0.0, &mut [0.0; 10]), Refused(10));
     assert_eq!(report(b""), b"sheet refused 11 line 1\n");
     assert_eq!(report(&[b'\n'; 65_536]), b"sheet refused 12\n");
@@ -145,7 +149,7 @@ fn the_lowest_number_is_given() {
         assert_eq!(bounds.map(|bounds| refusal(8, bounds)), [3, 4, 5, 6]);
     }
     let (slow, bad) = (Move::new(1, [1; 4]), machine(0.0, 0.0));
-    assert_eq!(sample(&slow, u64::MAX), SampleAnswer::Refused(7));
+    assert_eq!(sample(Fourth, &slow, u64::MAX), SampleAnswer::Refused(7));
     assert_eq!(force_table(&slow, &bad, &mut []), Refused(7));
     assert_eq!(force_table(&first(), &bad, &mut []), Refused(8));
 }

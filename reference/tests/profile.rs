@@ -1,22 +1,28 @@
-//! Demand 3, line by line, of moves and of sets' axes; then the tables, and rounding
-//! to counts.
+//! Demand 3, line by line, of moves in both orders and of sets' axes; then the tables,
+//! and rounding to counts.
 
+use reference::planner::Order::{self, Fourth, Third};
 use reference::planner::{durations, plan, plan_axes, Answer, Axes, Move, Plan};
 use reference::profile::{position_table, reference_table, rounded, sample, sample_axes};
 use reference::profile::{Rounding, Sample, SampleAnswer, TableAnswer};
 
 const G: u64 = 1 << 40;
-const TABLES: [fn(&Move, &mut [i64]) -> TableAnswer; 2] = [position_table, reference_table];
+
+type Fill = fn(Order, &Move, &mut [i64]) -> TableAnswer;
+const TABLES: [Fill; 2] = [position_table, reference_table];
 
 /// Accepted moves in both directions, with p q r s zero and not.
-fn moves() -> impl Iterator<Item = Move> {
+fn moves(order: Order) -> impl Iterator<Item = Move> {
     // In the second D is 2 and nearly 3: few moves fall short as much.
     let mut list = vec![(1 << 20, [1 << 50; 4]), (1, [1 << 50, 1 << 50, 1 << 50, 3])];
     for shape in 0..54 {
         let [p, q, r, s] = [1 + shape % 2, shape / 2 % 3, shape / 6 % 3, shape / 18];
+        // In third order p is 0, and q is not.
+        let [p, q] = if order == Third { [0, p + q] } else { [p, q] };
         let (a, b, c) = (p, p + q, 2 * p + q + r);
-        let x = (a * b * c * (a + b + c + s)) as i64;
-        let bounds = [a * b * c * G, a * b * G, a * G, G];
+        let jerk = a.max(1);
+        let x = (jerk * b * c * (a + b + c + s)) as i64;
+        let bounds = [jerk * b * c * G, jerk * b * G, jerk * G, G];
         list.extend([(x, bounds), (x - 1, bounds)]);
     }
     let both = |(x, bounds): (i64, _)| [Move::new(x, bounds), Move::new(-x, bounds)];
@@ -24,44 +30,58 @@ fn moves() -> impl Iterator<Item = Move> {
 }
 
 /// The samples of a move up to the first that is refused.
-fn samples(motion: &Move) -> Vec<Sample> {
-    let at = |k| match sample(motion, k) {
+fn samples(order: Order, motion: &Move) -> Vec<Sample> {
+    let at = |k| match sample(order, motion, k) {
         SampleAnswer::Sampled(at) => Some(at),
         SampleAnswer::Refused(_) => None,
     };
     (0..).map_while(at).collect()
 }
 
-/// The sign of the snap at samples 0 to N.
-fn signs(plan: &Plan) -> Vec<i64> {
-    let [p, q, r, s] = durations(plan.intervals);
-    let segments = [p, q, p, r, p, q, p, s, p, q, p, r, p, q, p];
+/// Which of the five values is switched: the snap, or the jerk.
+fn switched(order: Order) -> usize {
+    4 - order as usize
+}
+
+/// Its sign at samples 0 to N.
+fn signs(order: Order, plan: &Plan) -> Vec<i64> {
+    let ([_, b, c, e], [p, q, r, s]) = (plan.intervals, durations(plan.intervals));
+    let segments = match order {
+        Third => vec![b, c - b, b, e - b - c, b, c - b, b],
+        Fourth => vec![p, q, p, r, p, q, p, s, p, q, p, r, p, q, p],
+    };
+    // The first seven are those of the jerk too.
     let signs = [1, 0, -1, 0, -1, 0, 1, 0, -1, 0, 1, 0, 1, 0, -1];
     let pairs = segments.into_iter().zip(signs);
     let each = pairs.flat_map(|(segment, sign)| vec![sign; segment as usize]);
     each.chain([0]).collect()
 }
 
-/// W and P.
-fn way_and_product(motion: &Move, plan: &Plan) -> [i128; 2] {
-    let p = plan.intervals.map(i128::from).iter().product();
+/// W and P; a is no factor of it in third order.
+fn way_and_product(order: Order, motion: &Move, plan: &Plan) -> [i128; 2] {
+    let intervals = plan.intervals.map(i128::from);
+    let p = intervals[switched(order)..].iter().product();
     [motion.w() as i128, p]
 }
 
-/// Samples 0 to N, with snap D in the fifteen segments.
-fn assert_profile(motion: &Move, plan: &Plan, samples: &[Sample]) {
-    let [w, p] = way_and_product(motion, plan);
-    let along = |at: &Sample| i128::from(at.snap * motion.displacement.signum());
-    let signs = signs(plan);
-    let snaps = signs.iter().map(|sign| i128::from(*sign) * (w / p));
-    assert!(samples.iter().map(along).eq(snaps));
+/// Samples 0 to N, with what is switched in its segments; above it all is 0.
+fn assert_profile(order: Order, motion: &Move, plan: &Plan, samples: &[Sample]) {
+    let [w, p] = way_and_product(order, motion, plan);
+    let place = switched(order);
+    let along = |at: &Sample| i128::from(at.values()[place] * motion.displacement.signum());
+    let signs = signs(order, plan);
+    let values = signs.iter().map(|sign| i128::from(*sign) * (w / p));
+    assert!(samples.iter().map(along).eq(values));
+    let above = |at: &Sample| at.values()[..place].iter().all(|value| *value == 0);
+    assert!(samples.iter().all(above));
 }
 
-fn assert_sums_from_rest(samples: &[Sample]) {
-    assert_eq!(samples[0].values()[1..], [0; 4]);
+fn assert_sums_from_rest(order: Order, samples: &[Sample]) {
+    let first = switched(order) + 1;
+    assert!((first..5).all(|value| samples[0].values()[value] == 0));
     for pair in samples.windows(2) {
         let (here, next) = (pair[0].values(), pair[1].values());
-        assert!((1..5).all(|value| next[value] == here[value] + here[value - 1]));
+        assert!((first..5).all(|value| next[value] == here[value] + here[value - 1]));
     }
 }
 
@@ -74,18 +94,18 @@ fn assert_bounds(motion: &Move, at: &Sample) {
     assert!(at.velocity * motion.displacement.signum() >= 0);
 }
 
-/// E is the position of the profile with W for D.
-fn assert_half_count(motion: &Move, plan: &Plan, samples: &[Sample]) {
-    let [w, p] = way_and_product(motion, plan);
-    let [mut jerk, mut acceleration, mut velocity, mut e] = [0; 4];
-    for (at, sign) in samples.iter().zip(signs(plan)) {
+/// E is the position of the profile with W for what is switched.
+fn assert_half_count(order: Order, motion: &Move, plan: &Plan, samples: &[Sample]) {
+    let [w, p] = way_and_product(order, motion, plan);
+    let mut exact = [0; 5];
+    for (at, sign) in samples.iter().zip(signs(order, plan)) {
         let position = at.position * motion.displacement.signum();
-        let behind = e - p * i128::from(position);
+        let behind = exact[4] - p * i128::from(position);
         assert!(behind >= 0 && 2 * behind < i128::from(G) * p);
-        e += velocity;
-        velocity += acceleration;
-        acceleration += jerk;
-        jerk += i128::from(sign) * w;
+        exact[switched(order)] = i128::from(sign) * w;
+        for value in (switched(order) + 1..5).rev() {
+            exact[value] += exact[value - 1];
+        }
     }
 }
 
@@ -96,11 +116,11 @@ fn assert_remainder(at: &Sample) {
 }
 
 /// With the remainders of document 02's request 2.
-fn assert_demand_3(motion: &Move, plan: &Plan, samples: &[Sample]) {
-    assert_profile(motion, plan, samples);
-    assert_sums_from_rest(samples);
+fn assert_demand_3(order: Order, motion: &Move, plan: &Plan, samples: &[Sample]) {
+    assert_profile(order, motion, plan, samples);
+    assert_sums_from_rest(order, samples);
     samples.iter().for_each(|at| assert_bounds(motion, at));
-    assert_half_count(motion, plan, samples);
+    assert_half_count(order, motion, plan, samples);
     samples.iter().for_each(assert_remainder);
     let end = samples[samples.len() - 1];
     assert_eq!(end.values()[1..4], [0; 3]);
@@ -109,20 +129,26 @@ fn assert_demand_3(motion: &Move, plan: &Plan, samples: &[Sample]) {
     assert_eq!(end.remainder, -short);
 }
 
+/// Each move in both orders, and the order.
+fn moves_in_orders() -> impl Iterator<Item = (Order, Move)> {
+    let all = [Third, Fourth].into_iter();
+    all.flat_map(|order| moves(order).map(move |motion| (order, motion)))
+}
+
 #[test]
 fn demand_3() {
-    for motion in moves() {
-        let Answer::Planned(plan) = plan(&motion) else {
+    for (order, motion) in moves_in_orders() {
+        let Answer::Planned(plan) = plan(order, &motion) else {
             panic!("an accepted move");
         };
-        assert_demand_3(&motion, &plan, &samples(&motion));
+        assert_demand_3(order, &motion, &plan, &samples(order, &motion));
     }
 }
 
 /// The rules hold for every axis of a set, by its raised e.
 #[test]
 fn demand_3_in_a_set() {
-    let list: Vec<Move> = moves().collect();
+    let list: Vec<Move> = moves(Fourth).collect();
     for eight in list.chunks_exact(8) {
         let (count, moves) = (8, eight.try_into().expect("eight moves"));
         let axes = Axes { count, moves };
@@ -132,21 +158,22 @@ fn demand_3_in_a_set() {
             .collect();
         for (place, motion) in moves.iter().enumerate() {
             let of_axis: Vec<Sample> = samples.iter().map(|at| at[place]).collect();
-            assert_demand_3(motion, &set.plans[place], &of_axis);
+            assert_demand_3(Fourth, motion, &set.plans[place], &of_axis);
         }
     }
 }
 
 #[test]
 fn tables_hold_the_positions_and_keep_every_place_beyond() {
-    for motion in moves() {
-        let mut expected: Vec<i64> = samples(&motion).iter().map(|at| at.position).collect();
+    for (order, motion) in moves_in_orders() {
+        let samples = samples(order, &motion);
+        let mut expected: Vec<i64> = samples.iter().map(|at| at.position).collect();
         let rows = expected.len();
         expected.extend([-7; 3]);
         for fill in TABLES {
             for places in [rows, rows + 3] {
                 let mut table = vec![-7; places];
-                let answer = fill(&motion, &mut table);
+                let answer = fill(order, &motion, &mut table);
                 assert_eq!(answer, TableAnswer::Written(rows as u64));
                 assert_eq!(table, expected[..places]);
             }
@@ -156,10 +183,17 @@ fn tables_hold_the_positions_and_keep_every_place_beyond() {
 
 #[test]
 fn a_refused_table_is_kept() {
-    for (x, places, number) in [(4092, 4096, 8), (0, 5000, 1), (4093, 5000, 7)] {
+    let rows = [
+        (Fourth, 4092, 4096, 8),
+        (Fourth, 0, 5000, 1),
+        (Fourth, 4093, 5000, 7),
+        (Third, 4094, 4096, 8),
+        (Third, 4095, 5000, 7),
+    ];
+    for (order, x, places, number) in rows {
         for fill in TABLES {
             let mut table = vec![-7; places];
-            let answer = fill(&Move::new(x, [G; 4]), &mut table);
+            let answer = fill(order, &Move::new(x, [G; 4]), &mut table);
             assert_eq!(answer, TableAnswer::Refused(number));
             assert_eq!(table, vec![-7; places]);
         }

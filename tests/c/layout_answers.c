@@ -1,4 +1,4 @@
-/* Where the library writes each field of a plan, a sample and a table's answer. */
+/* Where the library writes each field of a plan of either order, a sample and a table's answer. */
 #include "wanted.h"
 
 static void check_plan(checks *tally, areas *both) {
@@ -13,46 +13,84 @@ static void check_plan(checks *tally, areas *both) {
   check_zeros(tally, "the rest of a refused plan", both, PLAN_RESULT_SAMPLES, PLAN_RESULT_SIZE);
 }
 
-/* The samples of the same move, backward: the sums of a snap that is written out. */
-static void check_samples(checks *tally, areas *both) {
+/* A move whose third-order plan has seven different numbers, and with any bound on the snap: it takes 17 samples. */
+static raw_move third_move(uint64_t snap) {
+  raw_move move = {{96, 10 * G, 2 * G, G, snap}};
+  return move;
+}
+
+/* 96 counts, divided by b c e = 2 * 5 * 10. */
+static const uint64_t third_jerk = UINT64_C(1055531162664);
+
+/* The signs of its jerk at samples 0 to 17. */
+static const int third_signs[18] = {1, 1, 0, 0, 0, -1, -1, 0, 0, 0, -1, -1, 0, 0, 0, 1, 1, 0};
+
+static void check_third_plan(checks *tally, areas *both) {
+  static const uint64_t snaps[] = {G, 0, UINT64_MAX};
+  for (size_t k = 0; k < sizeof snaps / sizeof *snaps; k++) {
+    CALL_TWICE(both, nitswolan_plan_third, third_move(snaps[k]));
+    check_extent(tally, "bytes of a third-order plan", both, THIRD_PLAN_SIZE);
+    check(tally, "third_plan.refusal", word(both, THIRD_PLAN_REFUSAL), 0);
+    check(tally, "third_plan.samples", word(both, THIRD_PLAN_SAMPLES), 17);
+    check(tally, "third_plan.b", word(both, THIRD_PLAN_B), 2);
+    check(tally, "third_plan.c", word(both, THIRD_PLAN_C), 5);
+    check(tally, "third_plan.e", word(both, THIRD_PLAN_E), 10);
+    check(tally, "third_plan.jerk", word(both, THIRD_PLAN_JERK), third_jerk);
+    check(tally, "third_plan.shortfall", word(both, THIRD_PLAN_SHORTFALL), 96);
+  }
+  CALL_TWICE(both, nitswolan_plan_third, (raw_move){{1, 1, 1, 1, 0}});
+  check_extent(tally, "bytes of a refused third-order plan", both, THIRD_PLAN_SIZE);
+  check(tally, "third_plan.refusal", word(both, THIRD_PLAN_REFUSAL), 7);
+  check_zeros(tally, "the rest of a refused third-order plan", both, THIRD_PLAN_SAMPLES, THIRD_PLAN_SIZE);
+}
+
+/* The samples of a move, backward: the sums of the snap, or in third order of the jerk, whose signs at samples 0 to N are written out. */
+static void check_samples(checks *tally, areas *both, const order *of, raw_move move, uint64_t size, const int *signs, uint64_t samples) {
   wanted_sample at = {0, 0, 0, 0, 0};
-  raw_move backward = sixth_move();
-  backward.words[MOVE_DISPLACEMENT / 8] = (uint64_t)INT64_C(-96);
-  for (uint64_t k = 0; k < 19; k++) {
-    at.snap = -sixth_signs[k] * (int64_t)sixth_plan().snap;
-    CALL_TWICE(both, nitswolan_sample_move, backward, k);
+  int64_t *const summed = of == &third ? &at.jerk : &at.snap;
+  move.words[MOVE_DISPLACEMENT / 8] = -move.words[MOVE_DISPLACEMENT / 8];
+  for (uint64_t k = 0; k <= samples; k++) {
+    *summed = -signs[k] * (int64_t)size;
+    CALL_TWICE(both, of->sample, move, k);
     check_extent(tally, "bytes of a sample", both, SAMPLE_RESULT_SIZE);
     check(tally, "sample.refusal", word(both, SAMPLE_RESULT_REFUSAL), 0);
     check_sample_at(tally, both, SAMPLE_RESULT_SAMPLE, at);
     step(&at);
   }
-  CALL_TWICE(both, nitswolan_sample_move, backward, 19);
+  CALL_TWICE(both, of->sample, move, samples + 1);
   check_extent(tally, "bytes of a refused sample", both, SAMPLE_RESULT_SIZE);
   check(tally, "sample.refusal", word(both, SAMPLE_RESULT_REFUSAL), 9);
   check_zeros(tally, "the rest of a refused sample", both, SAMPLE_RESULT_SAMPLE, SAMPLE_RESULT_SIZE);
 }
 
-static void check_tables(checks *tally) {
-  int64_t positions[9];
-  double forces[10];
+static void check_table(checks *tally, const char *what, raw_table_result answer, uint64_t refusal, uint64_t rows) {
+  check(tally, what, answer.words[TABLE_REFUSAL / 8], refusal);
+  check(tally, what, answer.words[TABLE_ROWS / 8], rows);
+}
+
+/* The tables of the first move, which takes so many samples: one place more is enough. */
+static void check_tables(checks *tally, const order *of, uint64_t samples) {
+  int64_t table[9];
+  check_table(tally, "positions", of->fill_positions(first_move(), table, samples + 1), 0, samples + 1);
+  check_table(tally, "reference", of->fill_reference(first_move(), table, samples + 1), 0, samples + 1);
+  check_table(tally, "positions, too few", of->fill_positions(first_move(), table, samples), 8, 0);
+  check_table(tally, "reference, too few", of->fill_reference(first_move(), table, samples), 8, 0);
+}
+
+static void check_forces(checks *tally) {
+  double table[10];
   const raw_machine machine = {{2, 0, 0, 0, 0, 1}};
-  const raw_table_result filled = nitswolan_fill_positions(first_move(), positions, 9);
-  const raw_table_result referred = nitswolan_fill_reference(first_move(), positions, 9);
-  const raw_table_result forced = nitswolan_fill_force(first_move(), machine, forces, 10);
-  const raw_table_result refused = nitswolan_fill_positions(first_move(), positions, 8);
-  check(tally, "positions.refusal", filled.words[TABLE_REFUSAL / 8], 0);
-  check(tally, "positions.rows", filled.words[TABLE_ROWS / 8], 9);
-  check(tally, "reference.refusal", referred.words[TABLE_REFUSAL / 8], 0);
-  check(tally, "reference.rows", referred.words[TABLE_ROWS / 8], 9);
-  check(tally, "force.refusal", forced.words[TABLE_REFUSAL / 8], 0);
-  check(tally, "force.rows", forced.words[TABLE_ROWS / 8], 10);
-  check(tally, "table.refusal", refused.words[TABLE_REFUSAL / 8], 8);
-  check(tally, "table.rows", refused.words[TABLE_ROWS / 8], 0);
+  check_table(tally, "forces", nitswolan_fill_force(first_move(), machine, table, 10), 0, 10);
+  check_table(tally, "forces, too few", nitswolan_fill_force(first_move(), machine, table, 9), 8, 0);
 }
 
 void check_answers(checks *tally) {
   areas both;
   check_plan(tally, &both);
-  check_samples(tally, &both);
-  check_tables(tally);
+  check_third_plan(tally, &both);
+  check_samples(tally, &both, &fourth, sixth_move(), sixth_plan().snap, sixth_signs, 18);
+  check_samples(tally, &both, &third, third_move(0), third_jerk, third_signs, 17);
+  check_tables(tally, &fourth, 8);
+  check_tables(tally, &third, 7);
+  check_forces(tally);
 }

@@ -13,19 +13,25 @@ static raw_machine machine_of(double m1, double m2, double k1, double k2, double
   return machine;
 }
 
-/* The refusal of each entry that takes a move. */
-static void check_refusals(checks *tally, const char *what, raw_move move, uint64_t refusal) {
+/* The refusal of an order's entries at a move, which takes 7 or 8 samples if it is accepted. The plans of both orders begin with theirs. */
+static void check_order(checks *tally, const char *what, const order *of, raw_move move, uint64_t refusal) {
   uint64_t plan[PLAN_RESULT_SIZE / 8];
   uint64_t sample[SAMPLE_RESULT_SIZE / 8];
   int64_t positions[9];
-  double forces[10];
-  const raw_machine machine = machine_of(2, 0, 0, 0, 0, 1);
-  nitswolan_plan_move(plan, move);
-  nitswolan_sample_move(sample, move, 8);
+  of->plan(plan, move);
+  of->sample(sample, move, 7);
   check(tally, what, plan[PLAN_RESULT_REFUSAL / 8], refusal);
   check(tally, what, sample[SAMPLE_RESULT_REFUSAL / 8], refusal);
-  check(tally, what, nitswolan_fill_positions(move, positions, 9).words[TABLE_REFUSAL / 8], refusal);
-  check(tally, what, nitswolan_fill_reference(move, positions, 9).words[TABLE_REFUSAL / 8], refusal);
+  check(tally, what, of->fill_positions(move, positions, 9).words[TABLE_REFUSAL / 8], refusal);
+  check(tally, what, of->fill_reference(move, positions, 9).words[TABLE_REFUSAL / 8], refusal);
+}
+
+/* The refusal of each entry that takes a move. The third order does not read the snap, for which alone 6 is given. */
+static void check_refusals(checks *tally, const char *what, raw_move move, uint64_t refusal) {
+  double forces[10];
+  const raw_machine machine = machine_of(2, 0, 0, 0, 0, 1);
+  check_order(tally, what, &fourth, move, refusal);
+  check_order(tally, what, &third, move, refusal == 6 ? 0 : refusal);
   check(tally, what, nitswolan_fill_force(move, machine, forces, 10).words[TABLE_REFUSAL / 8], refusal);
 }
 

@@ -11,6 +11,8 @@ static void check_tables(checks *tally, int64_t displacement, uint64_t refusal) 
   check(tally, "positions at NULL", nitswolan_fill_positions(move, NULL, 0).refusal, refusal);
   check(tally, "reference at NULL", nitswolan_fill_reference(move, NULL, 0).refusal, refusal);
   check(tally, "forces at NULL", nitswolan_fill_force(move, machine, NULL, 0).refusal, refusal);
+  check(tally, "third-order positions at NULL", nitswolan_fill_positions_third(move, NULL, 0).refusal, refusal);
+  check(tally, "third-order reference at NULL", nitswolan_fill_reference_third(move, NULL, 0).refusal, refusal);
 }
 
 void check_empty(checks *tally) {

@@ -55,6 +55,14 @@ static void check_results(checks *tally) {
   FIELD(nitswolan_plan_result, refusal, PLAN_RESULT_REFUSAL);
   FIELD(nitswolan_plan_result, samples, PLAN_RESULT_SAMPLES);
   PLAN_FIELDS(nitswolan_plan_result, PLAN_RESULT_PLAN);
+  SIZE(nitswolan_third_plan_result, THIRD_PLAN_SIZE);
+  FIELD(nitswolan_third_plan_result, refusal, THIRD_PLAN_REFUSAL);
+  FIELD(nitswolan_third_plan_result, samples, THIRD_PLAN_SAMPLES);
+  FIELD(nitswolan_third_plan_result, b, THIRD_PLAN_B);
+  FIELD(nitswolan_third_plan_result, c, THIRD_PLAN_C);
+  FIELD(nitswolan_third_plan_result, e, THIRD_PLAN_E);
+  FIELD(nitswolan_third_plan_result, jerk, THIRD_PLAN_JERK);
+  FIELD(nitswolan_third_plan_result, shortfall, THIRD_PLAN_SHORTFALL);
   SIZE(nitswolan_sample_result, SAMPLE_RESULT_SIZE);
   FIELD(nitswolan_sample_result, refusal, SAMPLE_RESULT_REFUSAL);
   SAMPLE_FIELDS(nitswolan_sample_result, SAMPLE_RESULT_SAMPLE);

@@ -34,15 +34,35 @@ void *nitswolan_sample_move(void *answer, raw_move move, uint64_t sample);
 raw_table_result nitswolan_fill_positions(raw_move move, int64_t *table, size_t places);
 raw_table_result nitswolan_fill_reference(raw_move move, int64_t *table, size_t places);
 raw_table_result nitswolan_fill_force(raw_move move, raw_machine machine, double *table, size_t places);
+void *nitswolan_plan_third(void *answer, raw_move move);
+void *nitswolan_sample_third(void *answer, raw_move move, uint64_t sample);
+raw_table_result nitswolan_fill_positions_third(raw_move move, int64_t *table, size_t places);
+raw_table_result nitswolan_fill_reference_third(raw_move move, int64_t *table, size_t places);
 void *nitswolan_plan_axes(void *answer, raw_axes axes);
 void *nitswolan_sample_axes(void *answer, raw_axes axes, uint64_t sample);
 void *nitswolan_read_sheet(void *answer, const uint8_t *text, size_t length);
 size_t nitswolan_report(const uint8_t *text, size_t length, uint8_t *report);
 
+/* The functions that the fourth order and the third have alike. */
+typedef struct {
+  void *(*plan)(void *answer, raw_move move);
+  void *(*sample)(void *answer, raw_move move, uint64_t sample);
+  raw_table_result (*fill_positions)(raw_move move, int64_t *table, size_t places);
+  raw_table_result (*fill_reference)(raw_move move, int64_t *table, size_t places);
+} order;
+
+static const order fourth = {nitswolan_plan_move, nitswolan_sample_move, nitswolan_fill_positions, nitswolan_fill_reference};
+static const order third = {
+  nitswolan_plan_third,
+  nitswolan_sample_third,
+  nitswolan_fill_positions_third,
+  nitswolan_fill_reference_third,
+};
+
 /* 2^40, the units in a count. */
 #define G (UINT64_C(1) << 40)
 
-/* The first move to check by: 8 counts in 8 samples, with snap G. */
+/* The first move to check by: 8 counts in 8 samples, with snap G; in third order in 7 samples, with jerk G. */
 static inline raw_move first_move(void) {
   raw_move move = {{8, 2 * G, G, G, G}};
   return move;

@@ -11,7 +11,7 @@
 enum { STACK = 1 << 18, UNTOUCHED = 0xA5, FOR_A_MOVE = 512, FOR_A_SET = 4 * 1024, FOR_A_SHEET = 24 * 1024 };
 
 /* The entries are numbered: first those for a move, then those for a set of axes, then those for a sheet. */
-enum { OF_A_MOVE = 0, OF_A_SET = 5, OF_A_SHEET = 7, ENTRIES = 9 };
+enum { OF_A_MOVE = 0, OF_A_SET = 9, OF_A_SHEET = 11, ENTRIES = 13 };
 
 /* What the thread is to call, and the address from which its stack is measured. */
 typedef struct {
@@ -28,6 +28,7 @@ typedef struct {
 static void *call(void *given) {
   work *todo = given;
   const raw_move move = {{4092, G, G, G, G}};
+  const raw_move longer = {{4094, G, G, G, G}}; /* in third order it takes 4,096 samples, too */
   const raw_machine machine = {{1, 1, 1, 1, 1, 1}};
   const uint8_t *text = (const uint8_t *)todo->text;
   todo->frame = __builtin_frame_address(0);
@@ -37,9 +38,13 @@ static void *call(void *given) {
   case 2: todo->answer[0] = nitswolan_fill_positions(move, todo->positions, 4097).words[0]; break;
   case 3: todo->answer[0] = nitswolan_fill_reference(move, todo->positions, 4097).words[0]; break;
   case 4: todo->answer[0] = nitswolan_fill_force(move, machine, todo->forces, 4098).words[0]; break;
-  case 5: return nitswolan_plan_axes(todo->answer, *todo->axes);
-  case 6: return nitswolan_sample_axes(todo->answer, *todo->axes, 4096);
-  case 7: return nitswolan_read_sheet(todo->answer, text, strlen(todo->text));
+  case 5: return nitswolan_plan_third(todo->answer, longer);
+  case 6: return nitswolan_sample_third(todo->answer, longer, 4096);
+  case 7: todo->answer[0] = nitswolan_fill_positions_third(longer, todo->positions, 4097).words[0]; break;
+  case 8: todo->answer[0] = nitswolan_fill_reference_third(longer, todo->positions, 4097).words[0]; break;
+  case 9: return nitswolan_plan_axes(todo->answer, *todo->axes);
+  case 10: return nitswolan_sample_axes(todo->answer, *todo->axes, 4096);
+  case 11: return nitswolan_read_sheet(todo->answer, text, strlen(todo->text));
   default: todo->answer[0] = nitswolan_report(text, strlen(todo->text), todo->report);
   }
   return NULL;

@@ -5,15 +5,14 @@ use Prim.Native.Nat.{ℕ}
 use native.Mathlib.Omega.{arith}
 use lib.Ieee.{Float}
 use Rattle.planner.specs.Result.{Result, Check}
-use Rattle.planner.specs.declared.Move.{Move}
 use Rattle.planner.proofs.Clash.{clash}
 use Rattle.planner.proofs.ResultLaws.{refused-or-given, same-refused, same-given}
 use Rattle.planner.proofs.AnswerLaws as planner
-use Rattle.motion.specs.Sampling.{Samples}
+use Rattle.motion.specs.Sampling.{Motion, Samples}
 use Rattle.motion.specs.ForceRows.Force.{rigid, filtered}
 use Rattle.motion.specs.Tables.{Fills, FillsPositions, FillsReference, FillsForce}
 use Rattle.motion.specs.Answer.{number, sampleOutcome, tableOutcome}
-use Rattle.motion.specs.Claims.{OneAnswerClaim}
+use Rattle.motion.specs.Claims.{OneAnswer, OneAnswerClaim}
 use Rattle.motion.specs.Inner.Rows.{driveKind}
 use Rattle.motion.proofs.SamplingLaws.{only-sample}
 use Rattle.motion.specs.declared.Sample.{Sample}
@@ -73,33 +72,34 @@ drive-injective (Filtered a b) (Rigid y) h = absurd (kinds-apart y a b (sym h))
 drive-injective (Filtered a b) (Filtered c d) h = let same = same-filter a b c d h in ap₂ Filtered (same .0) (same .1)
 
 -- so a promise leaves one answer
-module _ {m : Move} {k : ℕ} where
-  pub one-sample-outcome : {o p : Result ℕ Sample} → Samples m k o → Samples m k p → o ≡ p
-  one-sample-outcome h l = only-sample m k h ∙ sym (only-sample m k l)
+module _ {x : Motion} {k : ℕ} where
+  pub one-sample-outcome : {o p : Result ℕ Sample} → Samples x k o → Samples x k p → o ≡ p
+  one-sample-outcome h l = only-sample x k h ∙ sym (only-sample x k l)
 
-  pub one-sample-answer : (x y : SampleAnswer) → Samples m k (sampleOutcome x) → Samples m k (sampleOutcome y) → x ≡ y
-  one-sample-answer x y h l = sample-injective x y (one-sample-outcome h l)
+  pub one-sample-answer : (y z : SampleAnswer) → Samples x k (sampleOutcome y) → Samples x k (sampleOutcome z) → y ≡ z
+  one-sample-answer y z h l = sample-injective y z (one-sample-outcome h l)
 
-pub one-table-outcome :
-    {A : Type 0} {m : Move} {rows : ℕ} {own : List (Check ℕ)} {row : ℕ → A} {old new new′ : List A} {o p : Result ℕ ℕ}
-    → Fills m own rows row old o new
-    → Fills m own rows row old p new′
-    → (o ≡ p) × (new ≡ new′)
-one-table-outcome h l = (h .outcome-is ∙ sym (l .outcome-is), h .table-is ∙ sym (l .table-is))
+module _ {A : Type 0} {x : Motion} {rows : ℕ} {own : List (Check ℕ)} {row : ℕ → A} {old new new′ : List A} where
+  pub one-table-outcome :
+      {o p : Result ℕ ℕ} → Fills x own rows row old o new → Fills x own rows row old p new′ → (o ≡ p) × (new ≡ new′)
+  one-table-outcome h l = (h .outcome-is ∙ sym (l .outcome-is), h .table-is ∙ sym (l .table-is))
 
-pub one-table-answer :
-    {A : Type 0} {m : Move} {rows : ℕ} {own : List (Check ℕ)} {row : ℕ → A} {old new new′ : List A} (x y : TableAnswer)
-    → Fills m own rows row old (tableOutcome x) new
-    → Fills m own rows row old (tableOutcome y) new′
-    → (x ≡ y) × (new ≡ new′)
-one-table-answer x y h l = let same = one-table-outcome h l in (table-injective x y (same .0), same .1)
+  pub one-table-answer :
+      (y z : TableAnswer)
+      → Fills x own rows row old (tableOutcome y) new
+      → Fills x own rows row old (tableOutcome z) new′
+      → (y ≡ z) × (new ≡ new′)
+  one-table-answer y z h l = let same = one-table-outcome h l in (table-injective y z (same .0), same .1)
 
-pub one-motion-answer : (m : Move) → OneAnswerClaim m
-unfolding FillsPositions FillsReference FillsForce
-one-motion-answer m =
+one-answer : (x : Motion) → OneAnswer x
+unfolding FillsPositions FillsReference
+one-answer x =
     record {
-      sample = λ k x y. one-sample-answer x y;
-      positions = λ old new new′ x y. one-table-answer x y;
-      reference = λ old new new′ x y. one-table-answer x y;
-      force = λ machine old new new′ x y. one-table-answer x y;
+      sample = λ k y z. one-sample-answer y z;
+      positions = λ old new new′ y z. one-table-answer y z;
+      reference = λ old new new′ y z. one-table-answer y z;
     }
+
+pub one-motion-answer : OneAnswerClaim
+unfolding FillsForce
+one-motion-answer = record { either-order = one-answer; force = λ m machine old new new′ y z. one-table-answer y z }

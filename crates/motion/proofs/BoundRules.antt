@@ -1,40 +1,51 @@
--- Document 01, demand 3, "Bound rules" and "Never turning back", for intervals and a snap that keep the bounds.
+-- Document 01, demand 3, "Bound rules" and "Never turning back", for a profile over widths that keeps the bounds.
+use mathlib.Core.List.{List}
+use mathlib.Core.Path.{_≡_}
 use Prim.Native.Nat.{ℕ, _≤_}
 use native.Mathlib.Nat.{le-trans}
-use lib.IntN.{pos, natAbs}
+use lib.IntN.{ℤ, pos, natAbs}
 use lib.Signed.{_≤ℤ_, _<ℤ_}
+use Rattle.planner.specs.Quantities.{along}
 use Rattle.planner.specs.Intervals.{Intervals}
-use Rattle.planner.specs.Inner.Facts.{Ordered, KeepsBounds}
 use Rattle.planner.specs.declared.Move.{Move}
 use Rattle.planner.proofs.DirectionLaws.{size-along, along-forward, along-backward}
+use Rattle.profile.specs.Profile.{sum}
 use Rattle.profile.specs.Profile as profile
-use Rattle.motion.specs.Sampling.{valuesAt}
-use Rattle.motion.proofs.OrderedLaws.{at}
+use Rattle.profile.specs.Inner.Facts.{jerkOver, At}
+use Rattle.profile.proofs.ValueLaws.{value-size}
+use Rattle.profile.proofs.AnyOrder.{any-order}
+use Rattle.motion.specs.Sampling.{Values, valuesAt}
+use Rattle.motion.specs.Inner.SegmentLists.{fourthSegments}
+use Rattle.motion.proofs.KeptRules.{Keeps, Follows}
 
-module _ {m : Move} {t : Intervals} {D : ℕ} (o : Ordered t) (f : KeepsBounds m t D) (k : ℕ) where
-  -- the four bounds
-  pub snap-bound : natAbs (valuesAt (m .displacement) t D k .snap) ≤ m .snap
-  unfolding valuesAt
-  snap-bound = rw (size-along (m .displacement) (profile.snap _ _ _ _ D k)) (le-trans (at o D k .snap-size) (f .snap))
+-- a value of one size with another
+bounded : (X y : ℤ) {x : ℤ} {size bound : ℕ} → x ≡ along X y → natAbs y ≤ size → size ≤ bound → natAbs x ≤ bound
+bounded X y q l b = rw (q, size-along X y) (le-trans l b)
 
-  pub jerk-bound : natAbs (valuesAt (m .displacement) t D k .jerk) ≤ m .jerk
-  unfolding valuesAt
-  jerk-bound = rw (size-along (m .displacement) (profile.jerk _ _ _ _ D k)) (le-trans (at o D k .jerk-size) (f .jerk))
+module _
+    {m : Move} {a : ℕ} {inner : List ℕ} {c e D short : ℕ} (f : Keeps m a inner c e D short)
+    {v : ℕ → Values} (w : Follows (m .displacement) (jerkOver a inner c e D) v) (k : ℕ)
+  where
+    here : At a inner c e D k
+    here = any-order a inner c e (f .spread) D k
 
-  pub acceleration-bound : natAbs (valuesAt (m .displacement) t D k .acceleration) ≤ m .acceleration
-  unfolding valuesAt
-  acceleration-bound =
-      rw (size-along (m .displacement) (profile.acceleration _ _ _ _ D k)) (le-trans (at o D k .acceleration-size) (f .acceleration))
+    pub jerk-bound : natAbs (v k .jerk) ≤ m .jerk
+    jerk-bound = bounded (m .displacement) _ (w .jerk-is k) (here .jerk-size) (f .jerk)
 
-  pub velocity-bound : natAbs (valuesAt (m .displacement) t D k .velocity) ≤ m .velocity
-  unfolding valuesAt
-  velocity-bound = rw (size-along (m .displacement) (profile.velocity _ _ _ _ D k)) (le-trans (at o D k .velocity-size) (f .velocity))
+    pub acceleration-bound : natAbs (v k .acceleration) ≤ m .acceleration
+    acceleration-bound = bounded (m .displacement) _ (w .acceleration-is k) (here .acceleration-size) (f .acceleration)
 
-  -- never turning back
-  pub forward : pos 0 <ℤ m .displacement → pos 0 ≤ℤ valuesAt (m .displacement) t D k .velocity
-  unfolding valuesAt
-  forward h = along-forward (m .displacement) _ h (at o D k .forward)
+    pub velocity-bound : natAbs (v k .velocity) ≤ m .velocity
+    velocity-bound = bounded (m .displacement) _ (w .velocity-is k) (here .velocity-size) (f .velocity)
 
-  pub backward : m .displacement <ℤ pos 0 → valuesAt (m .displacement) t D k .velocity ≤ℤ pos 0
-  unfolding valuesAt
-  backward h = along-backward (m .displacement) _ h (at o D k .forward)
+    -- never turning back
+    pub forward : pos 0 <ℤ m .displacement → pos 0 ≤ℤ v k .velocity
+    forward h = rw (w .velocity-is k) (along-forward (m .displacement) _ h (here .forward))
+
+    pub backward : m .displacement <ℤ pos 0 → v k .velocity ≤ℤ pos 0
+    backward h = rw (w .velocity-is k) (along-backward (m .displacement) _ h (here .forward))
+
+-- the snap of the fourth order
+pub snap-bound : (X : ℤ) (t : Intervals) (D : ℕ) {bound : ℕ} → D ≤ bound → (k : ℕ) → natAbs (valuesAt X t D k .snap) ≤ bound
+unfolding valuesAt profile.snap
+snap-bound X t D l k = rw (size-along X (profile.snap _ _ _ _ D k)) (le-trans (value-size (fourthSegments t) D k) l)

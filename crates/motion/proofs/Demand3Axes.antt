@@ -3,7 +3,7 @@
 use mathlib.Core.Bool.{true, false, true≢false}
 use mathlib.Core.Path.{_≡_, sym, ap, subst, _∙_}
 use mathlib.Core.List.{List}
-use Prim.Native.Nat.{ℕ, _<_}
+use Prim.Native.Nat.{ℕ, _≤_, _<_}
 use borrow.Author.Tests.{eq-eqb}
 use lib.IntN.{ℤ}
 use lib.ListN.{length, take, getD}
@@ -24,7 +24,7 @@ use Rattle.motion.specs.Demand3.{KeptSnap, Kept}
 use Rattle.motion.specs.Inner.Planned.{directedPosition}
 use Rattle.motion.specs.declared.Sample.{Sample}
 use Rattle.motion.proofs.RoundedValues.{withRounding}
-use Rattle.motion.proofs.KeptRules.{Keeps, keeps}
+use Rattle.motion.proofs.KeptRules.{KeepsFourth, keeps}
 use Rattle.motion.proofs.KeptLaws.{sampleAt, kept-snap, kept}
 use Rattle.motion.proofs.AxisSampling.{axisRow, resting-row, values-by, exact-by}
 use Rattle.motion.proofs.AxesSampling.{result-given, sampled-row}
@@ -55,26 +55,30 @@ module _ (n : ℕ) (m : Move) where
       }
 
   -- a moving axis with the facts of its raised intervals
-  module _ (h : atRest m ≡ false) {short : ℕ} (f : Keeps m t (D t (distanceOf m)) short) (last : N t ≡ n) where
-    abbrev values : ℕ → Sample
-    values = sampleAt (m .displacement) t (D t (distanceOf m))
+  module _
+      (h : atRest m ≡ false) {short : ℕ} (f : KeepsFourth m t (D t (distanceOf m)) short) (slow : D t (distanceOf m) ≤ m .snap) (last : N t ≡ n)
+    where
+      abbrev values : ℕ → Sample
+      values = sampleAt (m .displacement) t (D t (distanceOf m))
 
-    abbrev exact : ℕ → ℤ
-    exact = directedPosition (m .displacement) t (distanceOf m)
+      abbrev exact : ℕ → ℤ
+      exact = directedPosition (m .displacement) t (distanceOf m)
 
-    rows : row ≡ values
-    rows = λ i k. withRounding (values-by n m h k i)
+      rows : row ≡ values
+      rows = λ i k. withRounding (values-by n m h k i)
 
-    moving-kept : KeptAxis n m row
-    moving-kept =
-        record {
-          kept-snap = subst (KeptSnap m n) (sym rows) (subst (λ (n : ℕ). KeptSnap m n values) last (kept-snap f));
-          kept =
-              subst (Kept m n (P t) (axisExact n m)) (sym rows)
-              (subst (λ (E : ℕ → ℤ). Kept m n (P t) E values) (sym (exact-by n m h))
-              (subst (λ (n : ℕ). Kept m n (P t) exact values) last (kept f)));
-          at-rest = λ q k. absurd (true≢false (sym (eq-eqb _ _ q) ∙ h));
-        }
+      moving-kept : KeptAxis n m row
+      moving-kept =
+          record {
+            kept-snap =
+                subst (KeptSnap m n) (sym rows)
+                (subst (λ (n : ℕ). KeptSnap m n values) last (kept-snap (m .displacement) t (D t (distanceOf m)) slow));
+            kept =
+                subst (Kept m n (P t) (axisExact n m)) (sym rows)
+                (subst (λ (E : ℕ → ℤ). Kept m n (P t) E values) (sym (exact-by n m h))
+                (subst (λ (n : ℕ). Kept m n (P t) exact values) last (kept f)));
+            at-rest = λ q k. absurd (true≢false (sym (eq-eqb _ _ q) ∙ h));
+          }
 
 -- axis i of accepted ones
 pub axis-kept :
@@ -83,8 +87,8 @@ pub axis-kept :
 axis-kept axes h i d l =
     by-rest (getD axes i d) (resting-kept (commonSamples axes) (getD axes i d))
     (λ moves.
-    moving-kept (commonSamples axes) (getD axes i d) moves (keeps (raised-axis axes h i d l moves))
-    (raised-axis-samples axes h i d l moves))
+    let f = raised-axis axes h i d l moves in
+    moving-kept (commonSamples axes) (getD axes i d) moves (keeps f) (f .bounds .snap) (raised-axis-samples axes h i d l moves))
 
 pub demand-3-axes : (count : ℕ) (moves : List Move) → Demand3AxesClaim count moves
 demand-3-axes count moves sent h o plans planned sample samples promised =

@@ -8,8 +8,9 @@ use native.Mathlib.Omega.{arith}
 use lib.IntN.{negℤ}
 use lib.ListN.{length, take, getD}
 use Rattle.planner.specs.Intervals.{N, D}
-use Rattle.planner.specs.Result.{Each}
+use Rattle.planner.specs.Result.{Each, given}
 use Rattle.planner.specs.Outcome.{distanceOf, intervalsOf, intervalsIn, samplesOf}
+use Rattle.planner.specs.Third.{thirdIntervalsIn}
 use Rattle.planner.specs.Axes.{restPlan, raised, atRest, axisPlan, commonSamples}
 use Rattle.planner.specs.AxesClaims.{axisAt, AcceptedAxis}
 use Rattle.planner.specs.declared.Move.{Move}
@@ -17,18 +18,21 @@ use Rattle.planner.specs.declared.Plan.{Plan}
 use Rattle.planner.proofs.AxisLaws.{by-rest}
 use Rattle.planner.proofs.DirectionLaws.{along-zero}
 use Rattle.planner.proofs.PlannedFacts.{planned-facts}
+use Rattle.planner.proofs.ThirdTheorems.{third-facts}
 use Rattle.planner.proofs.CountedLaws.{counted-at, within}
 use Rattle.planner.proofs.AxesAnswers.{all-accepted}
 use Rattle.planner.proofs.AxesAcceptance.{planned-common}
 use Rattle.planner.proofs.RaisedLaws.{raised-axis, raised-axis-samples, resting-plan, moving-plan}
 use Rattle.planner.proofs.ResultLaws.{same-given}
+use Rattle.profile.specs.Inner.Widths.{span}
+use Rattle.motion.specs.Sampling.{Values, Motion, Samples}
 use Rattle.motion.specs.Axes.{restSample}
-use Rattle.motion.specs.Claims.{EndRemainder, EndRemainderClaim}
+use Rattle.motion.specs.Claims.{EndRemainder, EndRemainderClaim, ThirdEndRemainderClaim}
 use Rattle.motion.specs.AxesClaims.{AxesEndRemainderClaim}
 use Rattle.motion.specs.declared.Sample.{Sample}
 use Rattle.motion.proofs.RoundedValues.{withRounding}
-use Rattle.motion.proofs.EntryLaws.{samples-are, values-are}
-use Rattle.motion.proofs.KeptRules.{keeps}
+use Rattle.motion.proofs.EntryLaws.{Planned, fourth-planned, third-planned}
+use Rattle.motion.proofs.KeptRules.{keeps, third-keeps, fourth-follows, third-follows}
 use Rattle.motion.proofs.KeptLaws.{sampleAt}
 use Rattle.motion.proofs.EndRule.{remainder-end}
 use Rattle.motion.proofs.Demand3.{sampled}
@@ -36,14 +40,29 @@ use Rattle.motion.proofs.AxisSampling.{axisRow, resting-row, values-by}
 use Rattle.motion.proofs.AxesSampling.{sampled-row}
 use Rattle.motion.proofs.AxesSampleRuns.{most, plan-is}
 
+-- the last sample of a plan
+last-sample :
+    {x : Motion} {n : ℕ} {v : ℕ → Values} → Planned x n v
+    → {last : Sample} → Samples x (x .samples) (given last)
+    → last ≡ withRounding (v n)
+last-sample {x} {v = v} f s =
+    same-given (sampled x (f .pass) (le-refl (x .samples)) s)
+    ∙ ap withRounding (sym (f .values-are (x .samples)))
+    ∙ ap (λ (k : ℕ). withRounding (v k)) (sym (f .samples-are))
+
 pub end-remainder : EndRemainderClaim
+unfolding span
 end-remainder m plan h last s =
     let f = planned-facts h in
-    let is : last ≡ sampleAt (m .displacement) (intervalsIn plan) (plan .snap) (N (intervalsIn plan)) =
-    same-given (sampled m (f .accepted) (le-refl (samplesOf m)) s)
-    ∙ ap withRounding (sym (values-are f (samplesOf m)))
-    ∙ ap (sampleAt (m .displacement) (intervalsIn plan) (plan .snap)) (sym (samples-are f)) in
-    subst (EndRemainder (m .displacement) (plan .shortfall)) (sym is) (remainder-end (keeps f))
+    subst (EndRemainder (m .displacement) (plan .shortfall)) (sym (last-sample (fourth-planned f) s))
+    (remainder-end (keeps f) (fourth-follows (m .displacement) (intervalsIn plan) (plan .snap)))
+
+pub third-end-remainder : ThirdEndRemainderClaim
+unfolding span
+third-end-remainder m plan h last s =
+    let f = third-facts h in
+    subst (EndRemainder (m .displacement) (plan .shortfall)) (sym (last-sample (third-planned f) s))
+    (remainder-end (third-keeps f) (third-follows (m .displacement) (thirdIntervalsIn plan) (plan .jerk)))
 
 -- one axis of accepted ones, at the common duration
 module _ (axes : List Move) (h : Each AcceptedAxis axes) (i : ℕ) (d : Move) (l : i < length axes) where
@@ -63,13 +82,15 @@ module _ (axes : List Move) (h : Each AcceptedAxis axes) (i : ℕ) (d : Move) (l
       (subst (AtEnd 0) (sym (resting-row n axis n rests)) zeros)
 
   moving-end : atRest axis ≡ false → AtEnd (axisPlan axis n .shortfall) (axisRow n axis n)
+  unfolding span
   moving-end moves =
       let t = raised n (intervalsOf axis) in
       let values = sampleAt (axis .displacement) t (D t (distanceOf axis)) in
       let row : axisRow n axis n ≡ values (N t) =
       ap withRounding (values-by n axis moves n) ∙ ap values (sym (raised-axis-samples axes h i d l moves)) in
       subst (λ (x : Plan). AtEnd (x .shortfall) (axisRow n axis n)) (sym (moving-plan axis n moves))
-      (subst (AtEnd _) (sym row) (remainder-end (keeps (raised-axis axes h i d l moves))))
+      (subst (AtEnd _) (sym row)
+      (remainder-end (keeps (raised-axis axes h i d l moves)) (fourth-follows (axis .displacement) t (D t (distanceOf axis)))))
 
   axis-end : AtEnd (axisPlan axis n .shortfall) (axisRow n axis n)
   axis-end = by-rest axis resting-end moving-end

@@ -6,19 +6,16 @@ use Prim.Native.Nat.{ℕ, zero, suc, _+_, _≤_, _<_}
 use native.Mathlib.Omega.{arith}
 use borrow.Author.Tests.{lt-ltb, le-ltb, ltb-false}
 use lib.Dec.{ltb}
+use lib.IntN.{ℤ}
 use lib.ListN.{length, getD, drop, length-append, List·getD-append}
 use Rattle.planner.specs.Result.{Each, Result, refused, given, Check, check, firstRefusal}
-use Rattle.planner.specs.Outcome.{checks, Plans}
-use Rattle.planner.specs.Claims.{Accepted}
-use Rattle.planner.specs.declared.Move.{Move}
-use Rattle.planner.specs.declared.Plan.{Plan}
-use Rattle.planner.proofs.Acceptance.{passed-accepted}
 use Rattle.planner.proofs.EachLaws.{each-parts}
-use Rattle.planner.proofs.RefusalLaws.{Passes, passed, all-pass}
+use Rattle.planner.proofs.RefusalLaws.{Passes, passed, all-pass, refused-on}
 use Rattle.planner.proofs.ResultLaws.{same-given}
-use Rattle.motion.specs.Tables.{rowsFrom, tableOf, tableChecks, tableResult, Fills}
-use Rattle.motion.specs.Inner.Planned.{PassedOn, RowsIn, WritesRows}
-use Rattle.motion.proofs.EntryLaws.{refused-first, own-checks}
+use Rattle.motion.specs.Sampling.{Values, Motion}
+use Rattle.motion.specs.Tables.{rowsFrom, tableOf, tableChecks, tableResult, Fills, FillsPositions, referenceRow, FillsReference}
+use Rattle.motion.specs.Inner.Planned.{RowsIn, WritesRows}
+use Rattle.motion.proofs.EntryLaws.{Planned, own-checks}
 
 length-rows : {A : Type 0} (row : ℕ → A) (k n : ℕ) → length (rowsFrom row k n) ≡ n
 unfolding rowsFrom
@@ -59,30 +56,27 @@ module _ {A : Type 0} {rows : ℕ} {row : ℕ → A} {old : List A} where
         table-is = h .table-is ∙ ap (λ (n : ℕ). rowsFrom row 0 rows ++ drop n old) (sym (length-rows row 0 rows));
       }
 
-  -- a move and a table
-  module _ {m : Move} {own : List (Check ℕ)} where
-    pub fills-refused : {o : Result ℕ Plan} {p : Result ℕ ℕ} → Plans m o → PassedOn o p → Fills m own rows row old p old
+  -- a move in either order and a table
+  module _ {x : Motion} {own : List (Check ℕ)} where
+    pub fills-refused : {Y : Type 0} (y : Y) (n : ℕ) → refused n ≡ firstRefusal (x .refusals) (given y) → Fills x own rows row old (refused n) old
     unfolding tableResult tableOf
-    fills-refused h passed =
-        let first = refused-first (check 8 (ltb (length old) rows) ∷ own) (given rows) h passed in
-        record {
-          outcome-is = first;
-          table-is = ap (λ (r : Result ℕ ℕ). tableOf r (rowsFrom row 0 rows) old) (sym (passed .refused-with) ∙ first);
-        }
+    fills-refused y n h =
+        let first = refused-on (x .refusals) (check 8 (ltb (length old) rows) ∷ own) y (given rows) n h in
+        record { outcome-is = first; table-is = ap (λ (r : Result ℕ ℕ). tableOf r (rowsFrom row 0 rows) old) first }
 
     pub fills :
         {planRows : ℕ} {planRow : ℕ → A} {new : List A} {o : Result ℕ ℕ}
-        → Accepted m
+        → Each Passes (x .refusals)
         → planRows ≡ rows
         → ((k : ℕ) → planRow k ≡ row k)
         → WritesRows own planRows planRow old o new
-        → Fills m own rows row old o new
+        → Fills x own rows row old o new
     unfolding tableResult
     fills h count same w =
         let result =
         w .outcome-is
         ∙ ap (λ (n : ℕ). firstRefusal (check 8 (ltb (length old) n) ∷ own) (given n)) count
-        ∙ sym (own-checks h (check 8 (ltb (length old) rows) ∷ own) (given rows)) in
+        ∙ sym (own-checks (x .refusals) h (check 8 (ltb (length old) rows) ∷ own) (given rows)) in
         record {
           outcome-is = result;
           table-is =
@@ -94,15 +88,15 @@ module _ {A : Type 0} {rows : ℕ} {row : ℕ → A} {old : List A} where
     -- what the table holds where no check applies
     module _
         {new : List A} {o : Result ℕ ℕ}
-        (h : Accepted m)
+        (h : Each Passes (x .refusals))
         (room : rows ≤ length old)
         (pass : Each Passes own)
-        (filled : Fills m own rows row old o new)
+        (filled : Fills x own rows row old o new)
       where
-        all-filled : tableResult m own rows (length old) ≡ given rows
+        all-filled : tableResult x own rows (length old) ≡ given rows
         unfolding tableResult
         all-filled =
-            own-checks h (check 8 (ltb (length old) rows) ∷ own) (given rows)
+            own-checks (x .refusals) h (check 8 (ltb (length old) rows) ∷ own) (given rows)
             ∙ all-pass (check 8 (ltb (length old) rows) ∷ own) (given rows) (le-ltb (length old) rows room, pass)
 
         pub filled-outcome : o ≡ given rows
@@ -129,15 +123,15 @@ module _ {A : Type 0} {rows : ℕ} {row : ℕ → A} {old : List A} where
             ∙ ap row (omega arith)
 
     -- a table that was filled: no check applied, so all that was sent was in range
-    module _ {n : ℕ} {new : List A} (filled : Fills m own rows row old (given n) new) where
-      none-applies : Each Passes (checks m) × Each Passes (check 8 (ltb (length old) rows) ∷ own)
+    module _ {n : ℕ} {new : List A} (filled : Fills x own rows row old (given n) new) where
+      none-applies : Each Passes (x .refusals) × Each Passes (check 8 (ltb (length old) rows) ∷ own)
       unfolding tableResult
       none-applies =
-          each-parts Passes (checks m) (check 8 (ltb (length old) rows) ∷ own)
-          (passed (tableChecks m own rows (length old)) rows n (sym (filled .outcome-is)))
+          each-parts Passes (x .refusals) (check 8 (ltb (length old) rows) ∷ own)
+          (passed (tableChecks x own rows (length old)) rows n (sym (filled .outcome-is)))
 
-      pub filled-accepted : Accepted m
-      filled-accepted = passed-accepted m (none-applies .0)
+      pub filled-passes : Each Passes (x .refusals)
+      filled-passes = none-applies .0
 
       pub filled-room : rows ≤ length old
       filled-room = ltb-false (length old) rows (none-applies .1 .0)
@@ -146,7 +140,17 @@ module _ {A : Type 0} {rows : ℕ} {row : ℕ → A} {old : List A} where
       filled-own = none-applies .1 .1
 
       pub filled-rows : n ≡ rows
-      filled-rows = same-given (filled-outcome filled-accepted filled-room filled-own filled)
+      filled-rows = same-given (filled-outcome filled-passes filled-room filled-own filled)
 
       pub filled-at : (x : A) (k : ℕ) → k < n → getD new k x ≡ row k
-      filled-at x k l = filled-row filled-accepted filled-room filled-own filled x k (omega (arith, filled-rows))
+      filled-at x k l = filled-row filled-passes filled-room filled-own filled x k (omega (arith, filled-rows))
+
+-- a plan's positions
+module _ {x : Motion} {n : ℕ} {v : ℕ → Values} (f : Planned x n v) {old new : List ℤ} {o : Result ℕ ℕ} where
+  pub fills-positions : WritesRows [] (n + 1) (λ k. v k .position) old o new → FillsPositions x old o new
+  unfolding FillsPositions
+  fills-positions = fills (f .pass) (ap (λ (n : ℕ). n + 1) (f .samples-are)) (λ k. ap (λ (v : Values). v .position) (f .values-are k))
+
+  pub fills-reference : WritesRows [] (n + 1) (λ k. v k .position) old o new → FillsReference x old o new
+  unfolding FillsReference referenceRow
+  fills-reference = fills (f .pass) (ap (λ (n : ℕ). n + 1) (f .samples-are)) (λ k. ap (λ (v : Values). v .position) (f .values-are k))

@@ -5,24 +5,24 @@ use mathlib.Core.Path.{_≡_, ap}
 use Prim.Native.Nat.{ℕ, _-_, _≤_, _<_}
 use borrow.Author.Tests.{lt-ltb, le-ltb}
 use lib.IntN.{ℤ, pos}
-use Rattle.profile.specs.Inner.Widths.{snapBy}
-use Rattle.motion.specs.Inner.InnerSamples.{SameSnap}
+use Rattle.profile.specs.Inner.Widths.{switchedBy}
+use Rattle.motion.specs.Inner.InnerSamples.{SameValue}
 
-pub before : (w : ℕ) (u v : ℤ) (k : ℕ) → k < w → SameSnap w u v k u v k
-unfolding snapBy
+pub before : (w : ℕ) (u v : ℤ) (k : ℕ) → k < w → SameValue w u v k u v k
+unfolding switchedBy
 before w u v k h =
-    record { same = λ a ws. ap (λ (t : Bool). cond t (snapBy a ws u v k) (snapBy a ws v u (k - w))) (lt-ltb k w h) }
+    record { same = λ a ws. ap (λ (t : Bool). cond t (switchedBy a ws u v k) (switchedBy a ws v u (k - w))) (lt-ltb k w h) }
 
-pub past : (w : ℕ) (u v : ℤ) (k : ℕ) → w ≤ k → SameSnap w u v k v u (k - w)
-unfolding snapBy
+pub past : (w : ℕ) (u v : ℤ) (k : ℕ) → w ≤ k → SameValue w u v k v u (k - w)
+unfolding switchedBy
 past w u v k h =
-    record { same = λ a ws. ap (λ (t : Bool). cond t (snapBy a ws u v k) (snapBy a ws v u (k - w))) (le-ltb k w h) }
+    record { same = λ a ws. ap (λ (t : Bool). cond t (switchedBy a ws u v k) (switchedBy a ws v u (k - w))) (le-ltb k w h) }
 
 -- in the innermost interval, and after it
-pub inside : (a : ℕ) (u v : ℤ) (k : ℕ) → k < a → snapBy a [] u v k ≡ u
-unfolding snapBy
+pub inside : (a : ℕ) (u v : ℤ) (k : ℕ) → k < a → switchedBy a [] u v k ≡ u
+unfolding switchedBy
 inside a u v k h = ap (λ (t : Bool). cond t u (pos 0)) (lt-ltb k a h)
 
-pub outside : (a : ℕ) (u v : ℤ) (k : ℕ) → a ≤ k → snapBy a [] u v k ≡ pos 0
-unfolding snapBy
+pub outside : (a : ℕ) (u v : ℤ) (k : ℕ) → a ≤ k → switchedBy a [] u v k ≡ pos 0
+unfolding switchedBy
 outside a u v k h = ap (λ (t : Bool). cond t u (pos 0)) (le-ltb k a h)

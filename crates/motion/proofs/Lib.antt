@@ -7,16 +7,19 @@ pub mod RoundedValues
 pub mod OrderedLaws
 pub mod RestLaws
 pub mod InnerSampleLaws
-pub mod DirectedSnap
 pub mod StepLaws
 pub mod StateLaws
--- A table: runs of stores, the fifteen segments, and the rows that they leave.
+-- A table: runs of stores, the segments, and the rows that they leave.
 pub mod RunLaws
 pub mod SegmentLaws
 pub mod ListedLaws
 pub mod RowLaws
 pub mod TableLaws
 pub mod SegmentRuns
+-- The switched value by the widths; the third order's sums, and its runs; the positions of both orders.
+pub mod DirectedValue
+pub mod ThirdStates
+pub mod HeldRuns
 pub mod PositionLaws
 -- The rows of a force table, and what they are exactly.
 pub mod ForceRows

@@ -1,15 +1,15 @@
--- The snaps of segments as a list are their snaps sample by sample, in the direction of X.
+-- The switched values of segments as a list are their values sample by sample, in the direction of X.
 use mathlib.Core.List.{List, [], _∷_, _++_}
 use mathlib.Core.Path.{_≡_, refl, sym, ap, subst, _∙_}
 use Prim.Native.Nat.{ℕ, zero, suc, _+_, _<_}
 use native.Mathlib.Omega.{arith}
 use lib.IntN.{ℤ, pos, negsuc, negℤ}
 use lib.ListN.{length, replicate, length-append, length-replicate}
-use Rattle.profile.specs.Profile.{level, Sign, positive, none, negative, Segment, segment, snapIn}
-use Rattle.profile.specs.Inner.Widths.{snapWith}
-use Rattle.profile.proofs.Lookup.{samples, snap-first, snap-next}
+use Rattle.profile.specs.Profile.{level, Sign, positive, none, negative, Segment, segment, switchedIn}
+use Rattle.profile.specs.Inner.Widths.{switchedWith}
+use Rattle.profile.proofs.Lookup.{samples, value-first, value-next}
 use Rattle.planner.specs.Quantities.{along}
-use Rattle.motion.specs.Inner.SegmentSnaps.{snapsOf}
+use Rattle.motion.specs.Inner.SegmentLists.{switchedList}
 
 -- the list holds what f gives from k on
 unfoldable pub Listed : List ℤ → (ℕ → ℤ) → ℕ → Type 0
@@ -29,8 +29,8 @@ listed-equal (suc n) x f k h = (
   listed-equal n x f (suc k) (λ i l. ap f (omega arith) ∙ h (suc i) (omega arith)),
 )
 
--- the level of a segment is its snap in the direction of X
-level-along : (X : ℤ) (sign : Sign) (D : ℕ) → along X (snapWith sign D) ≡ level sign (along X (pos D)) (negℤ (along X (pos D)))
+-- the level of a segment is its value in the direction of X
+level-along : (X : ℤ) (sign : Sign) (D : ℕ) → along X (switchedWith sign D) ≡ level sign (along X (pos D)) (negℤ (along X (pos D)))
 unfolding along level
 level-along (pos n) positive D = refl
 level-along (pos n) none D = refl
@@ -40,26 +40,26 @@ level-along (negsuc n) none D = refl
 level-along (negsuc n) negative D = refl
 
 module _ (X : ℤ) (D : ℕ) where
-  abbrev pub directedSnaps : List Segment → List ℤ
-  directedSnaps xs = snapsOf xs (along X (pos D)) (negℤ (along X (pos D)))
+  abbrev pub directedList : List Segment → List ℤ
+  directedList xs = switchedList xs (along X (pos D)) (negℤ (along X (pos D)))
 
-  pub length-snaps : (xs : List Segment) → length (directedSnaps xs) ≡ samples xs
-  unfolding snapsOf samples
-  length-snaps [] = refl
-  length-snaps (segment n sign ∷ xs) =
+  pub length-list : (xs : List Segment) → length (directedList xs) ≡ samples xs
+  unfolding switchedList samples
+  length-list [] = refl
+  length-list (segment n sign ∷ xs) =
       let x = level sign (along X (pos D)) (negℤ (along X (pos D))) in
-      omega (arith, length-append (replicate n x) (directedSnaps xs), length-replicate n x, length-snaps xs)
+      omega (arith, length-append (replicate n x) (directedList xs), length-replicate n x, length-list xs)
 
-  pub listed : (xs : List Segment) (f : ℕ → ℤ) (k : ℕ) → ((i : ℕ) → f (k + i) ≡ along X (snapIn xs D i)) → Listed (directedSnaps xs) f k
-  unfolding snapsOf Listed
+  pub listed : (xs : List Segment) (f : ℕ → ℤ) (k : ℕ) → ((i : ℕ) → f (k + i) ≡ along X (switchedIn xs D i)) → Listed (directedList xs) f k
+  unfolding switchedList Listed
   listed [] f k h = tt
   listed (segment n sign ∷ xs) f k h =
       let x = level sign (along X (pos D)) (negℤ (along X (pos D))) in
       let to-next : k + n ≡ k + length (replicate n x) = omega (arith, length-replicate n x) in
-      listed-joined (replicate n x) (directedSnaps xs) f k
-      (listed-equal n x f k (λ i l. h i ∙ ap (along X) (snap-first n sign xs D i l) ∙ level-along X sign D))
-      (subst (Listed (directedSnaps xs) f) to-next
+      listed-joined (replicate n x) (directedList xs) f k
+      (listed-equal n x f k (λ i l. h i ∙ ap (along X) (value-first n sign xs D i l) ∙ level-along X sign D))
+      (subst (Listed (directedList xs) f) to-next
       (listed xs f (k + n)
       (λ i.
-      ap f (omega arith) ∙ h (n + i) ∙ ap (along X) (snap-next n sign xs D (n + i) (omega arith))
-      ∙ ap (λ (j : ℕ). along X (snapIn xs D j)) (omega arith))))
+      ap f (omega arith) ∙ h (n + i) ∙ ap (along X) (value-next n sign xs D (n + i) (omega arith))
+      ∙ ap (λ (j : ℕ). along X (switchedIn xs D j)) (omega arith))))

@@ -1,5 +1,5 @@
--- What demand 3 comes to for the table that the drive plays, said of its places and of the snap alone. Every line of demand 3 but the
--- count at the end is used here, so none can be left out or weakened unseen.
+-- What demand 3 comes to for the table that the drive plays, in either order, said of its places and of the jerk alone; and in the fourth
+-- order of the snap. Every line of demand 3 but the count at the end is used here, so none can be left out or weakened unseen.
 use mathlib.Core.List.{List}
 use mathlib.Core.Path.{_≡_, refl, sym, ap, subst, _∙_}
 use Prim.Native.Nat.{ℕ, _*_, _≤_, _<_}
@@ -8,107 +8,115 @@ use lib.IntN.{ℤ, pos, negℤ, natAbs, _-ℤ_, _*ℤ_}
 use lib.ListN.{length, getD}
 use lib.Signed.{_≤ℤ_, _<ℤ_}
 use Rattle.planner.specs.Quantities.{unitsPerCount}
-use Rattle.planner.specs.Intervals.{P}
 use Rattle.planner.specs.Result.{Result}
-use Rattle.planner.specs.Outcome.{intervalsOf, samplesOf}
+use Rattle.planner.specs.Outcome.{samplesOf}
 use Rattle.planner.specs.declared.Move.{Move}
 use Rattle.profile.specs.Profile.{sum}
-use Rattle.motion.specs.Sampling.{exactPositionTimesP}
-use Rattle.motion.specs.Demand3.{Demand3}
+use Rattle.motion.specs.Sampling.{Motion}
+use Rattle.motion.specs.Demand3.{Demand3Of, Demand3}
 use Rattle.motion.specs.declared.Sample.{Sample}
 use Rattle.motion.proofs.IntegerLaws.{negated-difference, swapped-difference}
 use Rattle.motion.proofs.SumsFromRest.{sums-up}
 use Rattle.motion.proofs.EitherDirection.{Along, not-positive, along-either, below-either}
 
-module _ (m : Move) (snap : ℕ → ℤ) (table : List ℤ) where
+module _ (m : Move) (x : Motion) (jerk : ℕ → ℤ) (table : List ℤ) where
   abbrev pub place : ℕ → ℤ
   place k = getD table k (pos 0)
 
   -- what a place lacks of the exact profile, times P
   abbrev pub lacking : ℕ → ℤ
-  lacking k = exactPositionTimesP m k -ℤ pos (P (intervalsOf m)) *ℤ place k
+  lacking k = x .exact k -ℤ pos (x .product) *ℤ place k
 
   pub record Played : Type 0 where
-    pub places : samplesOf m < length table
-    -- summed four times from rest
-    pub summed : (k : ℕ) → k ≤ samplesOf m → place k ≡ sum (sum (sum (sum snap))) k
-    pub snap-most : (k : ℕ) → k ≤ samplesOf m → natAbs (snap k) ≤ m .snap
-    pub jerk-most : (k : ℕ) → k ≤ samplesOf m → natAbs (sum snap k) ≤ m .jerk
-    pub acceleration-most : (k : ℕ) → k ≤ samplesOf m → natAbs (sum (sum snap) k) ≤ m .acceleration
-    pub velocity-most : (k : ℕ) → k ≤ samplesOf m → natAbs (sum (sum (sum snap)) k) ≤ m .velocity
+    pub places : x .samples < length table
+    -- summed three times from rest
+    pub summed : (k : ℕ) → k ≤ x .samples → place k ≡ sum (sum (sum jerk)) k
+    pub jerk-most : (k : ℕ) → k ≤ x .samples → natAbs (jerk k) ≤ m .jerk
+    pub acceleration-most : (k : ℕ) → k ≤ x .samples → natAbs (sum jerk k) ≤ m .acceleration
+    pub velocity-most : (k : ℕ) → k ≤ x .samples → natAbs (sum (sum jerk) k) ≤ m .velocity
     -- never turning back
-    pub onward : (k : ℕ) → k ≤ samplesOf m → Along (m .displacement) (sum (sum (sum snap)) k)
+    pub onward : (k : ℕ) → k ≤ x .samples → Along (m .displacement) (sum (sum jerk) k)
     -- less than half a count short, and never past
-    pub short : (k : ℕ) → k ≤ samplesOf m → Along (m .displacement) (lacking k)
-    pub near : (k : ℕ) → k ≤ samplesOf m → 2 * natAbs (lacking k) < unitsPerCount * P (intervalsOf m)
+    pub short : (k : ℕ) → k ≤ x .samples → Along (m .displacement) (lacking k)
+    pub near : (k : ℕ) → k ≤ x .samples → 2 * natAbs (lacking k) < unitsPerCount * x .product
     -- at rest at the end
-    pub jerk-ended : sum snap (samplesOf m) ≡ pos 0
-    pub acceleration-ended : sum (sum snap) (samplesOf m) ≡ pos 0
-    pub velocity-ended : sum (sum (sum snap)) (samplesOf m) ≡ pos 0
+    pub jerk-ended : jerk (x .samples) ≡ pos 0
+    pub acceleration-ended : sum jerk (x .samples) ≡ pos 0
+    pub velocity-ended : sum (sum jerk) (x .samples) ≡ pos 0
 
-module _ {m : Move} {sample : ℕ → Result ℕ Sample} {table : List ℤ} (moves : 1 ≤ natAbs (m .displacement)) (d : Demand3 m sample table) where
-  abbrev snapAt : ℕ → ℤ
-  snapAt k = d .at k .snap
+module _
+    {m : Move} {x : Motion} {sample : ℕ → Result ℕ Sample} {table : List ℤ}
+    (moves : 1 ≤ natAbs (m .displacement)) (d : Demand3Of m x sample table)
+  where
+    abbrev jerkAt : ℕ → ℤ
+    jerkAt k = d .at k .jerk
 
-  abbrev N : ℕ
-  N = samplesOf m
+    abbrev N : ℕ
+    N = x .samples
 
-  abbrev E : ℕ → ℤ
-  E = exactPositionTimesP m
+    acceleration-is : (k : ℕ) → k ≤ N → d .at k .acceleration ≡ sum jerkAt k
+    acceleration-is = sums-up N _ jerkAt jerkAt (d .kept .acceleration-rest) (d .kept .acceleration-sum) (λ k l. refl)
 
-  jerk-is : (k : ℕ) → k ≤ N → d .at k .jerk ≡ sum snapAt k
-  jerk-is = sums-up N _ snapAt snapAt (d .kept-snap .jerk-rest) (d .kept-snap .jerk-sum) (λ k l. refl)
+    velocity-is : (k : ℕ) → k ≤ N → d .at k .velocity ≡ sum (sum jerkAt) k
+    velocity-is = sums-up N _ _ (sum jerkAt) (d .kept .velocity-rest) (d .kept .velocity-sum) acceleration-is
 
-  acceleration-is : (k : ℕ) → k ≤ N → d .at k .acceleration ≡ sum (sum snapAt) k
-  acceleration-is = sums-up N _ _ (sum snapAt) (d .kept .acceleration-rest) (d .kept .acceleration-sum) jerk-is
+    position-is : (k : ℕ) → k ≤ N → d .at k .position ≡ sum (sum (sum jerkAt)) k
+    position-is = sums-up N _ _ (sum (sum jerkAt)) (d .kept .position-rest) (d .kept .position-sum) velocity-is
 
-  velocity-is : (k : ℕ) → k ≤ N → d .at k .velocity ≡ sum (sum (sum snapAt)) k
-  velocity-is = sums-up N _ _ (sum (sum snapAt)) (d .kept .velocity-rest) (d .kept .velocity-sum) acceleration-is
+    -- the lines hold of the table's places as they hold of the entry's positions
+    lack-is : (k : ℕ) → k ≤ N → x .exact k -ℤ pos (x .product) *ℤ d .at k .position ≡ lacking m x jerkAt table k
+    lack-is k l = ap (λ y. x .exact k -ℤ pos (x .product) *ℤ y) (sym (d .table-position k l))
 
-  position-is : (k : ℕ) → k ≤ N → d .at k .position ≡ sum (sum (sum (sum snapAt))) k
-  position-is = sums-up N _ _ (sum (sum (sum snapAt))) (d .kept .position-rest) (d .kept .position-sum) velocity-is
+    back-is : (k : ℕ) → k ≤ N → pos (x .product) *ℤ d .at k .position -ℤ x .exact k ≡ negℤ (lacking m x jerkAt table k)
+    back-is k l =
+        sym (swapped-difference (x .exact k) (pos (x .product) *ℤ d .at k .position))
+        ∙ negated-difference (x .exact k) (pos (x .product) *ℤ d .at k .position)
+        ∙ ap negℤ (lack-is k l)
 
-  -- the lines hold of the table's places as they hold of the entry's positions
-  lack-is : (k : ℕ) → k ≤ N → E k -ℤ pos (P (intervalsOf m)) *ℤ d .at k .position ≡ lacking m snapAt table k
-  lack-is k l = ap (λ x. E k -ℤ pos (P (intervalsOf m)) *ℤ x) (sym (d .table-position k l))
+    short-at : (k : ℕ) → k ≤ N → Along (m .displacement) (lacking m x jerkAt table k)
+    short-at k l =
+        along-either (m .displacement) (lacking m x jerkAt table k) moves
+        (λ s. subst (λ y. pos 0 ≤ℤ y) (lack-is k l) (d .kept .never-past s k l))
+        (λ s. subst (λ y. pos 0 ≤ℤ y) (back-is k l) (d .kept .never-past-back s k l))
 
-  back-is : (k : ℕ) → k ≤ N → pos (P (intervalsOf m)) *ℤ d .at k .position -ℤ E k ≡ negℤ (lacking m snapAt table k)
-  back-is k l =
-      sym (swapped-difference (E k) (pos (P (intervalsOf m)) *ℤ d .at k .position))
-      ∙ negated-difference (E k) (pos (P (intervalsOf m)) *ℤ d .at k .position)
-      ∙ ap negℤ (lack-is k l)
+    near-at : (k : ℕ) → k ≤ N → 2 * natAbs (lacking m x jerkAt table k) < unitsPerCount * x .product
+    near-at k l =
+        below-either (m .displacement) (lacking m x jerkAt table k) (unitsPerCount * x .product) (short-at k l) moves
+        (λ s. subst (λ y. (pos 2 *ℤ y) <ℤ pos (unitsPerCount * x .product)) (lack-is k l) (d .kept .below-half s k l))
+        (λ s. subst (λ y. (pos 2 *ℤ y) <ℤ pos (unitsPerCount * x .product)) (back-is k l) (d .kept .below-half-back s k l))
 
-  short-at : (k : ℕ) → k ≤ N → Along (m .displacement) (lacking m snapAt table k)
-  short-at k l =
-      along-either (m .displacement) (lacking m snapAt table k) moves
-      (λ s. subst (λ x. pos 0 ≤ℤ x) (lack-is k l) (d .kept .never-past s k l))
-      (λ s. subst (λ x. pos 0 ≤ℤ x) (back-is k l) (d .kept .never-past-back s k l))
+    onward-at : (k : ℕ) → k ≤ N → Along (m .displacement) (d .at k .velocity)
+    onward-at k l =
+        along-either (m .displacement) (d .at k .velocity) moves
+        (λ s. d .kept .forward s k l)
+        (λ s. not-positive (d .at k .velocity) (d .kept .backward s k l))
 
-  near-at : (k : ℕ) → k ≤ N → 2 * natAbs (lacking m snapAt table k) < unitsPerCount * P (intervalsOf m)
-  near-at k l =
-      below-either (m .displacement) (lacking m snapAt table k) (unitsPerCount * P (intervalsOf m)) (short-at k l) moves
-      (λ s. subst (λ x. (pos 2 *ℤ x) <ℤ pos (unitsPerCount * P (intervalsOf m))) (lack-is k l) (d .kept .below-half s k l))
-      (λ s. subst (λ x. (pos 2 *ℤ x) <ℤ pos (unitsPerCount * P (intervalsOf m))) (back-is k l) (d .kept .below-half-back s k l))
+    pub played : Played m x jerkAt table
+    played =
+        record {
+          places = d .table-places;
+          summed = λ k l. d .table-position k l ∙ position-is k l;
+          jerk-most = d .kept .jerk-bound;
+          acceleration-most = λ k l. rw (← acceleration-is k l) (d .kept .acceleration-bound k l);
+          velocity-most = λ k l. rw (← velocity-is k l) (d .kept .velocity-bound k l);
+          onward = λ k l. subst (Along (m .displacement)) (velocity-is k l) (onward-at k l);
+          short = short-at;
+          near = near-at;
+          jerk-ended = d .kept .jerk-end;
+          acceleration-ended = sym (acceleration-is N (le-refl N)) ∙ d .kept .acceleration-end;
+          velocity-ended = sym (velocity-is N (le-refl N)) ∙ d .kept .velocity-end;
+        }
 
-  onward-at : (k : ℕ) → k ≤ N → Along (m .displacement) (d .at k .velocity)
-  onward-at k l =
-      along-either (m .displacement) (d .at k .velocity) moves
-      (λ s. d .kept .forward s k l)
-      (λ s. not-positive (d .at k .velocity) (d .kept .backward s k l))
+-- In the fourth order the jerk is summed too, and the snap keeps its bound.
+pub record PlayedSnap (m : Move) (snap jerk : ℕ → ℤ) : Type 0 where
+  pub jerk-summed : (k : ℕ) → k ≤ samplesOf m → jerk k ≡ sum snap k
+  pub snap-most : (k : ℕ) → k ≤ samplesOf m → natAbs (snap k) ≤ m .snap
 
-  pub played : Played m snapAt table
-  played =
-      record {
-        places = d .table-places;
-        summed = λ k l. d .table-position k l ∙ position-is k l;
-        snap-most = d .kept-snap .snap-bound;
-        jerk-most = λ k l. rw (← jerk-is k l) (d .kept .jerk-bound k l);
-        acceleration-most = λ k l. rw (← acceleration-is k l) (d .kept .acceleration-bound k l);
-        velocity-most = λ k l. rw (← velocity-is k l) (d .kept .velocity-bound k l);
-        onward = λ k l. subst (Along (m .displacement)) (velocity-is k l) (onward-at k l);
-        short = short-at;
-        near = near-at;
-        jerk-ended = sym (jerk-is N (le-refl N)) ∙ d .kept .jerk-end;
-        acceleration-ended = sym (acceleration-is N (le-refl N)) ∙ d .kept .acceleration-end;
-        velocity-ended = sym (velocity-is N (le-refl N)) ∙ d .kept .velocity-end;
-      }
+pub played-snap :
+    {m : Move} {sample : ℕ → Result ℕ Sample} {table : List ℤ} (d : Demand3 m sample table)
+    → PlayedSnap m (λ k. d .shared .at k .snap) (λ k. d .shared .at k .jerk)
+played-snap d =
+    record {
+      jerk-summed = sums-up _ _ _ _ (d .kept-snap .jerk-rest) (d .kept-snap .jerk-sum) (λ k l. refl);
+      snap-most = d .kept-snap .snap-bound;
+    }

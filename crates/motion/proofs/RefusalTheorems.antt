@@ -8,29 +8,34 @@ use native.Mathlib.Omega.{arith}
 use borrow.Author.Tests.{lt-ltb, le-ltb, ltb-true, ltb-false, not-true}
 use lib.Dec.{ltb}
 use lib.Ieee.{Float}
+use lib.IntN.{ℤ}
 use lib.ListN.{length}
-use Rattle.planner.specs.Result.{Result, refused, given, Check, check, firstRefusal}
+use Rattle.planner.specs.Result.{Each, Result, refused, given, Check, check, firstRefusal}
 use Rattle.planner.specs.Order.{FirstToApply}
-use Rattle.planner.specs.Outcome.{samplesOf, checks}
-use Rattle.planner.specs.Claims.{Accepted}
+use Rattle.planner.specs.Third.{thirdIntervalsOf, thirdSamplesOf, thirdChecks}
 use Rattle.planner.specs.declared.Move.{Move}
+use Rattle.planner.proofs.Acceptance.{accepted-passes}
+use Rattle.planner.proofs.EachLaws.{each-joined}
 use Rattle.planner.proofs.OrderLaws.{first-given}
-use Rattle.motion.specs.Sampling.{sampleWith, Samples}
+use Rattle.planner.proofs.RefusalLaws.{Passes}
+use Rattle.planner.proofs.RuleRefusals.{Has, refusal-has, NotSix, third-never}
+use Rattle.planner.proofs.ThirdTheorems.{third-passes}
+use Rattle.motion.specs.Sampling.{thirdValuesOf, thirdExactTimesP, Motion, fourthOrder, thirdOrder, sampleWith, Samples}
 use Rattle.motion.specs.ForceRows.Machine.{Machine, machineAsRead, machineInRange}
 use Rattle.motion.specs.Tables.{machineCheck, rowsFrom, tableOf, tableResult, Fills, FillsPositions, FillsReference, FillsForce}
-use Rattle.motion.specs.Claims.{Only, only, RefusedBy, ForceReason, AcceptedRefusalsClaim, UntouchedClaim, OrderClaim}
+use Rattle.motion.specs.Claims.{Only, only, RefusedBy, ForceReason, AcceptedRefusals, AcceptedRefusalsClaim, UntouchedClaim, OrderClaim, SnapUnreadMotionClaim}
 use Rattle.motion.specs.declared.Sample.{Sample}
 use Rattle.motion.proofs.EntryLaws.{own-checks}
 
 -- With an accepted move the entry's own checks decide.
 by-own :
-    {A : Type 0} {m : Move} → Accepted m
+    {A : Type 0} (xs : List (Check ℕ)) → Each Passes xs
     → (own : List (Check ℕ)) (x : A) {o : Result ℕ A} {Reason : ℕ → Type 0}
-    → o ≡ firstRefusal (checks m ++ own) (given x)
+    → o ≡ firstRefusal (xs ++ own) (given x)
     → ((n : ℕ) → FirstToApply n own ↔ Reason n)
     → RefusedBy o Reason
-by-own {A} h own x is reason n =
-    let left = is ∙ own-checks h own (given x) in
+by-own {A} xs h own x is reason n =
+    let left = is ∙ own-checks xs h own (given x) in
     Iff·trans (λ q. sym left ∙ q, λ q. left ∙ q) (Iff·trans (first-given ℕ A own x n) (reason n))
 
 -- One check, and what its test says.
@@ -76,53 +81,61 @@ module _ (machine : Machine Float) (rows places : ℕ) where
 
 -- A refusal writes nothing, whatever the rows are.
 refused-leaves :
-    {A : Type 0} {m : Move} {own : List (Check ℕ)} {rows : ℕ} {row : ℕ → A} {old new : List A} {n : ℕ}
-    → Fills m own rows row old (refused n) new
+    {A : Type 0} {x : Motion} {own : List (Check ℕ)} {rows : ℕ} {row : ℕ → A} {old new : List A} {n : ℕ}
+    → Fills x own rows row old (refused n) new
     → new ≡ old
 unfolding tableOf
 refused-leaves {rows} {row} {old} {n} f =
     f .table-is ∙ ap (λ (r : Result ℕ ℕ). tableOf r (rowsFrom row 0 rows) old) (sym (f .outcome-is))
 
-module _ {m : Move} (h : Accepted m) where
-  sample-refusals : (k : ℕ) (o : Result ℕ Sample) → Samples m k o → RefusedBy o (Only 9 (samplesOf m < k))
+module _ (x : Motion) (h : Each Passes (x .refusals)) where
+  sample-refusals : (k : ℕ) (o : Result ℕ Sample) → Samples x k o → RefusedBy o (Only 9 (x .samples < k))
   unfolding sampleWith
-  sample-refusals k o p = by-own h (check 9 (ltb (samplesOf m) k) ∷ []) _ (p .outcome-is) (below-reason 9 (samplesOf m) k)
+  sample-refusals k o p = by-own (x .refusals) h (check 9 (ltb (x .samples) k) ∷ []) _ (p .outcome-is) (below-reason 9 (x .samples) k)
 
   -- for positions and for reference rows
   table-refusals :
       {A : Type 0} {rows : ℕ} {row : ℕ → A} {old new : List A} {o : Result ℕ ℕ}
-      → Fills m [] rows row old o new
+      → Fills x [] rows row old o new
       → RefusedBy o (Only 8 (length old < rows))
   unfolding tableResult
   table-refusals {rows} {old} p =
-      by-own h (check 8 (ltb (length old) rows) ∷ []) rows (p .outcome-is) (below-reason 8 (length old) rows)
+      by-own (x .refusals) h (check 8 (ltb (length old) rows) ∷ []) rows (p .outcome-is) (below-reason 8 (length old) rows)
 
   force-refusals :
       (machine : Machine Float) {rows : ℕ} {row : ℕ → Float} {old new : List Float} {o : Result ℕ ℕ}
-      → Fills m (machineCheck machine ∷ []) rows row old o new
+      → Fills x (machineCheck machine ∷ []) rows row old o new
       → RefusedBy o (ForceReason machine rows (length old))
   unfolding tableResult
   force-refusals machine {rows} {old} p =
-      by-own h (check 8 (ltb (length old) rows) ∷ machineCheck machine ∷ []) rows (p .outcome-is)
+      by-own (x .refusals) h (check 8 (ltb (length old) rows) ∷ machineCheck machine ∷ []) rows (p .outcome-is)
       (force-reason machine rows (length old))
 
+  refusals : AcceptedRefusals x
+  unfolding FillsPositions FillsReference
+  refusals =
+      record {
+        sample = sample-refusals;
+        positions = λ old new o p. table-refusals p;
+        reference = λ old new o p. table-refusals p;
+      }
+
 pub accepted-refusals : AcceptedRefusalsClaim
-unfolding FillsPositions FillsReference FillsForce
-accepted-refusals m h =
+unfolding FillsForce
+accepted-refusals =
     record {
-      sample = sample-refusals h;
-      positions = λ old new o p. table-refusals h p;
-      reference = λ old new o p. table-refusals h p;
-      force = λ machine old new o p. force-refusals h machine p;
+      fourth = λ m h. refusals (fourthOrder m) (accepted-passes m h);
+      force = λ m h machine old new o p. force-refusals (fourthOrder m) (accepted-passes m h) machine p;
+      third = λ m h. refusals (thirdOrder m) (third-passes m h);
     }
 
-pub untouched : (m : Move) → UntouchedClaim m
+pub untouched : UntouchedClaim
 unfolding FillsPositions FillsReference FillsForce
-untouched m =
+untouched =
     record {
-      positions = λ n old new p. refused-leaves p;
-      reference = λ n old new p. refused-leaves p;
-      force = λ machine n old new p. refused-leaves p;
+      positions = λ x n old new p. refused-leaves p;
+      reference = λ x n old new p. refused-leaves p;
+      force = λ m machine n old new p. refused-leaves p;
     }
 
 pub motion-order : (m : Move) → OrderClaim m
@@ -131,4 +144,32 @@ motion-order m =
       sample = λ k. (refl, omega arith);
       table = λ rows places. (refl, omega arith);
       force = λ machine rows places. (refl, omega arith);
+      third-sample = λ k. (refl, omega arith);
+      third-table = λ rows places. (refl, omega arith);
+    }
+
+-- no check of a third-order entry has the number 6
+never-six :
+    {A : Type 0} (m : Move) (n : ℕ) (t : Bool) (x : A) → NotSix n → refused 6 ≡ firstRefusal (thirdChecks m ++ (check n t ∷ [])) (given x) → ⊥
+never-six m n t x h q =
+    let own : List (Check ℕ) = check n t ∷ [] in
+    omega (
+      arith,
+      refusal-has NotSix (thirdChecks m ++ own) x (each-joined (Has NotSix) (thirdChecks m) own (third-never m) (h, tt)) 6 (sym q) .1,
+    )
+
+table-never-six : (m : Move) {rows : ℕ} {row : ℕ → ℤ} {old new : List ℤ} → Fills (thirdOrder m) [] rows row old (refused 6) new → ⊥
+unfolding tableResult
+table-never-six m p = never-six m 8 _ _ (omega arith) (p .outcome-is)
+
+pub snap-unread-motion : (m : Move) → SnapUnreadMotionClaim m
+unfolding thirdSamplesOf thirdIntervalsOf thirdValuesOf thirdExactTimesP sampleWith FillsPositions FillsReference
+snap-unread-motion m =
+    record {
+      sample = λ S₀ k o p. record { rounding = p .rounding; outcome-is = p .outcome-is };
+      positions = λ S₀ old new o p. record { outcome-is = p .outcome-is; table-is = p .table-is };
+      reference = λ S₀ old new o p. record { outcome-is = p .outcome-is; table-is = p .table-is };
+      sample-never-six = λ k p. never-six m 9 _ _ (omega arith) (p .outcome-is);
+      positions-never-six = λ old new p. table-never-six m p;
+      reference-never-six = λ old new p. table-never-six m p;
     }

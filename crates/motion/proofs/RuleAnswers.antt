@@ -1,52 +1,94 @@
 -- What demand 3 assumes can be met: the rules' own answers meet the promises of the entries, for every move and every table.
 use mathlib.Core.List.{List, []}
 use mathlib.Core.Path.{refl, sym}
-use Prim.Native.Nat.{ℕ, _+_}
+use Prim.Native.Nat.{ℕ, _+_, _≤_}
 use native.Mathlib.Nat.{le-of-eq}
+use native.Mathlib.Omega.{arith}
 use lib.IntN.{ℤ, pos}
 use lib.ListN.{length, replicate, length-replicate}
 use Rattle.planner.specs.Result.{Result, Check}
-use Rattle.planner.specs.Outcome.{samplesOf}
+use Rattle.planner.specs.Quantities.{distance}
+use Rattle.planner.specs.Least.{firstFrom, least}
+use Rattle.planner.specs.Intervals.{interval-c, interval-e, A₁, c, V₁, e}
 use Rattle.planner.specs.Claims.{Accepted, mirrored}
+use Rattle.planner.specs.Third.{third-b, thirdIntervalsOf, thirdSamplesOf}
+use Rattle.planner.specs.ThirdClaims.{ThirdAccepted}
 use Rattle.planner.specs.declared.Move.{Move}
 use Rattle.planner.proofs.Mirror.{mirror}
 use Rattle.planner.proofs.StarredMoves.{firstStarred, first-accepted}
-use Rattle.motion.specs.Sampling.{valuesOf}
+use Rattle.motion.specs.Sampling.{Motion, fourthOrder, thirdOrder}
 use Rattle.motion.specs.Tables.{rowsFrom, tableOf, tableResult, Fills, FillsPositions}
-use Rattle.motion.specs.Demand3.{Demand3}
+use Rattle.motion.specs.Demand3.{Demand3, ThirdDemand3}
 use Rattle.motion.proofs.SamplingLaws.{ruleSample, rule-samples}
-use Rattle.motion.proofs.Demand3.{demand-3}
+use Rattle.motion.proofs.Demand3.{demand-3, third-demand-3}
 
 -- the outcome and the table of the rule itself, for any rule of rows
-module _ {A : Type 0} (m : Move) (own : List (Check ℕ)) (rows : ℕ) (row : ℕ → A) (old : List A) where
+module _ {A : Type 0} (x : Motion) (own : List (Check ℕ)) (rows : ℕ) (row : ℕ → A) (old : List A) where
   abbrev pub ruleResult : Result ℕ ℕ
-  ruleResult = tableResult m own rows (length old)
+  ruleResult = tableResult x own rows (length old)
 
   abbrev pub ruleTable : List A
   ruleTable = tableOf ruleResult (rowsFrom row 0 rows) old
 
-  pub rule-fills : Fills m own rows row old ruleResult ruleTable
+  pub rule-fills : Fills x own rows row old ruleResult ruleTable
   rule-fills = record { outcome-is = refl; table-is = refl }
 
-module _ (m : Move) where
+module _ (x : Motion) where
   abbrev pub rows : ℕ
-  rows = samplesOf m + 1
+  rows = x .samples + 1
 
   abbrev pub zeros : List ℤ
   zeros = replicate rows (pos 0)
 
-  abbrev pub positions : List ℤ
-  positions = ruleTable m [] rows (λ k. valuesOf m k .position) zeros
+  abbrev pub rulePositions : Result ℕ ℕ
+  rulePositions = ruleResult x [] rows (λ k. x .values k .position) zeros
 
-  pub rule-demand-3 : Accepted m → Demand3 m (ruleSample m) positions
+  abbrev pub positions : List ℤ
+  positions = ruleTable x [] rows (λ k. x .values k .position) zeros
+
+  pub positions-fill : FillsPositions x zeros rulePositions positions
   unfolding FillsPositions
-  rule-demand-3 h =
-      demand-3 m h (ruleSample m) (λ k l. rule-samples m k refl) zeros positions _ (le-of-eq (sym (length-replicate rows (pos 0))))
-      (rule-fills m [] rows (λ k. valuesOf m k .position) zeros)
+  positions-fill = rule-fills x [] rows (λ k. x .values k .position) zeros
+
+  pub room : rows ≤ length zeros
+  room = le-of-eq (sym (length-replicate rows (pos 0)))
+
+pub rule-demand-3 : (m : Move) → Accepted m → Demand3 m (ruleSample (fourthOrder m)) (positions (fourthOrder m))
+rule-demand-3 m h =
+    let x = fourthOrder m in
+    demand-3 m h (ruleSample x) (λ k l. rule-samples x k refl) (zeros x) (positions x) _ (room x) (positions-fill x)
+
+pub rule-third-demand-3 : (m : Move) → ThirdAccepted m → ThirdDemand3 m (ruleSample (thirdOrder m)) (positions (thirdOrder m))
+rule-third-demand-3 m h =
+    let x = thirdOrder m in
+    third-demand-3 m h (ruleSample x) (λ k l. rule-samples x k refl) (zeros x) (positions x) _ (room x) (positions-fill x)
 
 -- closed instances, forward and backward: the first of document 01's moves, and its mirror
-pub demand-3-forward : Demand3 firstStarred (ruleSample firstStarred) (positions firstStarred)
+abbrev back : Move
+back = mirrored firstStarred
+
+pub demand-3-forward : Demand3 firstStarred (ruleSample (fourthOrder firstStarred)) (positions (fourthOrder firstStarred))
 demand-3-forward = rule-demand-3 firstStarred first-accepted
 
-pub demand-3-backward : Demand3 (mirrored firstStarred) (ruleSample (mirrored firstStarred)) (positions (mirrored firstStarred))
-demand-3-backward = rule-demand-3 (mirrored firstStarred) (mirror firstStarred .0 first-accepted)
+pub demand-3-backward : Demand3 back (ruleSample (fourthOrder back)) (positions (fourthOrder back))
+demand-3-backward = rule-demand-3 back (mirror firstStarred .0 first-accepted)
+
+-- and of the third order: its figures are in range, and its intervals are 1, 2 and 4
+pub third-forward : ThirdAccepted firstStarred
+unfolding thirdSamplesOf thirdIntervalsOf third-b c e A₁ V₁ interval-c interval-e least firstFrom distance
+third-forward =
+    let i = first-accepted .in-range in
+    record {
+      in-range =
+          record {
+            moves = i .moves;
+            near = i .near;
+            velocity = i .bounds .velocity;
+            acceleration = i .bounds .acceleration;
+            jerk = i .bounds .jerk;
+          };
+      short-enough = omega arith;
+    }
+
+pub third-demand-3-forward : ThirdDemand3 firstStarred (ruleSample (thirdOrder firstStarred)) (positions (thirdOrder firstStarred))
+third-demand-3-forward = rule-third-demand-3 firstStarred third-forward

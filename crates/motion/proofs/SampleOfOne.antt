@@ -7,20 +7,21 @@ use native.Mathlib.Omega.{arith}
 use borrow.Author.Tests.{lt-ltb, le-ltb}
 use Rattle.planner.specs.Intervals.{Intervals, N, D}
 use Rattle.planner.specs.Result.{Result, refused, given, padded}
-use Rattle.planner.specs.Outcome.{distanceOf, intervalsOf, samplesOf, intervalsIn, outcomeOf}
+use Rattle.planner.specs.Outcome.{distanceOf, intervalsOf, samplesOf, intervalsIn, checks, outcomeOf}
 use Rattle.planner.specs.Axes.{mostAxes, raised, commonSamples, axesResult}
 use Rattle.planner.specs.AxesClaims.{outcomeOfOne, placesOfOne}
 use Rattle.planner.specs.Claims.{Accepted, IsPlanned}
 use Rattle.planner.specs.declared.Move.{Move}
 use Rattle.planner.specs.declared.Plan.{Plan}
-use Rattle.planner.proofs.Acceptance.{accepted-outcome, rule-accepted}
+use Rattle.planner.proofs.Acceptance.{accepted-passes, accepted-outcome, rule-accepted}
+use Rattle.planner.proofs.RefusalLaws.{refused-on}
 use Rattle.planner.proofs.AxisLaws.{moving-rest}
 use Rattle.planner.proofs.SetOfOne.{raised-own, own-common, set-of-one}
-use Rattle.motion.specs.Sampling.{valuesAt, valuesOf, sampleOf, sampleWith, Rounding}
+use Rattle.motion.specs.Sampling.{valuesAt, valuesOf, fourthOrder, sampleOf, sampleWith, Rounding}
 use Rattle.motion.specs.Axes.{restSample, axisValues, SamplesAxes}
 use Rattle.motion.specs.AxesClaims.{SampleOfOneClaim}
 use Rattle.motion.specs.declared.Sample.{Sample}
-use Rattle.motion.proofs.EntryLaws.{refused-first, applies, passes}
+use Rattle.motion.proofs.EntryLaws.{applies, passes}
 use Rattle.motion.proofs.AxisSampling.{values-by, row-of}
 use Rattle.motion.proofs.AxesSampling.{placed-rows, samples-refused, samples-past, samples-given}
 
@@ -62,22 +63,20 @@ module _ (m : Move) (others : List Move) (k : ℕ) where
     past : N (intervalsOf m) < k → Alone (refused 9)
     past = samples-past 1 (m ∷ others) k set-given
 
-    accepted-alone : Alone (sampleWith m k r)
+    accepted-alone : Alone (sampleWith (fourthOrder m) k r)
     unfolding sampleWith samplesOf
     accepted-alone =
         elim (decLe k (N (intervalsOf m))) [
-          | yes l ↦ subst Alone (sym (passes h 9 _ _ (le-ltb (N (intervalsOf m)) k l))) (within l)
+          | yes l ↦ subst Alone (sym (passes (checks m) (accepted-passes m h) 9 _ _ (le-ltb (N (intervalsOf m)) k l))) (within l)
           | no l ↦
               let l : N (intervalsOf m) < k = omega (arith, l) in
-              subst Alone (sym (applies h 9 _ _ (lt-ltb (N (intervalsOf m)) k l))) (past l)
+              subst Alone (sym (applies (checks m) (accepted-passes m h) 9 _ _ (lt-ltb (N (intervalsOf m)) k l))) (past l)
         ]
 
-  by-outcome : (p : Result ℕ Plan) → outcomeOf m ≡ p → (r : Rounding (valuesOf m k .position)) → Alone (sampleWith m k r)
-  unfolding sampleWith
+  by-outcome : (p : Result ℕ Plan) → outcomeOf m ≡ p → (r : Rounding (valuesOf m k .position)) → Alone (sampleWith (fourthOrder m) k r)
+  unfolding sampleWith outcomeOf
   by-outcome (refused n) q r =
-      subst Alone
-      (refused-first _ _ (record { outcome-is = refl }) (record { refusal = n; refused-by = q; refused-with = refl }))
-      (refused-alone n q)
+      subst Alone (refused-on (checks m) _ _ _ n (sym q)) (refused-alone n q)
   by-outcome (given x) q r = accepted-alone (rule-accepted m .0 (subst IsPlanned (sym q) tt)) r
 
 pub sample-of-one : SampleOfOneClaim

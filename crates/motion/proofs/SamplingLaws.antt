@@ -1,46 +1,43 @@
--- What the one-sample entry promises, case by case.
+-- What the one-sample entry promises, case by case, in either order.
 use mathlib.Core.Path.{_≡_, sym, ap, subst, _∙_}
 use Prim.Native.Nat.{ℕ, _≤_, _<_}
 use borrow.Author.Tests.{lt-ltb, le-ltb}
-use Rattle.planner.specs.Intervals.{N}
 use Rattle.planner.specs.Result.{Result, refused, given, firstRefusal}
-use Rattle.planner.specs.Outcome.{intervalsOf, intervalsIn, Plans}
-use Rattle.planner.specs.Inner.Facts.{PlanFacts}
-use Rattle.planner.specs.declared.Move.{Move}
-use Rattle.planner.specs.declared.Plan.{Plan}
-use Rattle.motion.specs.Sampling.{valuesOf, sampleChecks, sampleWith, Samples}
+use Rattle.planner.proofs.RefusalLaws.{refused-on}
+use Rattle.motion.specs.Sampling.{Values, Motion, sampleChecks, sampleWith, Samples}
 use Rattle.motion.specs.declared.Sample.{Sample}
-use Rattle.motion.specs.Inner.Planned.{PassedOn, IsSample}
+use Rattle.motion.specs.Inner.Planned.{IsSampleOf}
 use Rattle.motion.proofs.RoundingLaws.{rounding-of}
 use Rattle.motion.proofs.RoundedValues.{withRounding, one-rounded-sample}
-use Rattle.motion.proofs.EntryLaws.{refused-first, applies, passes, samples-are, values-are}
+use Rattle.motion.proofs.EntryLaws.{Planned, applies, passes}
 
 -- the rule's own outcome meets the promise, and no other
-module _ (m : Move) (k : ℕ) where
+module _ (x : Motion) (k : ℕ) where
   abbrev pub ruleSample : Result ℕ Sample
-  ruleSample = sampleWith m k (rounding-of (valuesOf m k .position))
+  ruleSample = sampleWith x k (rounding-of (x .values k .position))
 
-  pub rule-samples : {o : Result ℕ Sample} → o ≡ ruleSample → Samples m k o
-  rule-samples q = record { rounding = rounding-of (valuesOf m k .position); outcome-is = q }
+  pub rule-samples : {o : Result ℕ Sample} → o ≡ ruleSample → Samples x k o
+  rule-samples q = record { rounding = rounding-of (x .values k .position); outcome-is = q }
 
-  pub only-sample : {o : Result ℕ Sample} → Samples m k o → o ≡ ruleSample
+  pub only-sample : {o : Result ℕ Sample} → Samples x k o → o ≡ ruleSample
   unfolding sampleWith
   only-sample h =
-      h .outcome-is ∙ ap (λ (x : Sample). firstRefusal (sampleChecks m k) (given x)) (one-rounded-sample (valuesOf m k) (h .rounding))
+      h .outcome-is ∙ ap (λ (s : Sample). firstRefusal (sampleChecks x k) (given s)) (one-rounded-sample (x .values k) (h .rounding))
 
-pub sample-refused : {m : Move} {k : ℕ} {o : Result ℕ Plan} {p : Result ℕ Sample} → Plans m o → PassedOn o p → Samples m k p
-unfolding sampleWith
-sample-refused {m} {k} h passed = rule-samples m k (refused-first _ _ h passed)
-
-module _ {m : Move} {x : Plan} {k : ℕ} (f : PlanFacts m (intervalsOf m) x) where
-  pub sample-past : N (intervalsIn x) < k → Samples m k (refused 9)
+  -- the planner's refusal is the entry's
+  pub sample-refused : {Y : Type 0} (y : Y) (n : ℕ) → refused n ≡ firstRefusal (x .refusals) (given y) → Samples x k (refused n)
   unfolding sampleWith
-  sample-past l = rule-samples m k (sym (applies (f .accepted) 9 _ _ (lt-ltb _ k (subst (λ (n : ℕ). n < k) (samples-are f) l))))
+  sample-refused y n h = rule-samples (refused-on (x .refusals) _ y _ n h)
 
-  pub sample-given :
-      {r : Sample} → k ≤ N (intervalsIn x) → IsSample (m .displacement) (intervalsIn x) (x .snap) k r → Samples m k (given r)
+module _ {x : Motion} {n : ℕ} {v : ℕ → Values} {k : ℕ} (f : Planned x n v) where
+  pub sample-past : n < k → Samples x k (refused 9)
   unfolding sampleWith
-  sample-given l v =
-      rule-samples m k
-      (ap given (v .sample-is ∙ one-rounded-sample _ (v .rounding) ∙ ap withRounding (values-are f k))
-      ∙ sym (passes (f .accepted) 9 _ _ (le-ltb _ k (subst (λ (n : ℕ). k ≤ n) (samples-are f) l))))
+  sample-past l =
+      rule-samples x k (sym (applies (x .refusals) (f .pass) 9 _ _ (lt-ltb _ k (subst (λ (n : ℕ). n < k) (f .samples-are) l))))
+
+  pub sample-given : {r : Sample} → k ≤ n → IsSampleOf (v k) r → Samples x k (given r)
+  unfolding sampleWith
+  sample-given l s =
+      rule-samples x k
+      (ap given (s .sample-is ∙ one-rounded-sample _ (s .rounding) ∙ ap withRounding (f .values-are k))
+      ∙ sym (passes (x .refusals) (f .pass) 9 _ _ (le-ltb _ k (subst (λ (n : ℕ). k ≤ n) (f .samples-are) l))))

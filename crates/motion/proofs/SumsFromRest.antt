@@ -9,50 +9,52 @@ use Rattle.planner.specs.Intervals.{Intervals}
 use Rattle.planner.proofs.DirectionLaws.{along-zero, along-sum}
 use Rattle.profile.specs.Profile.{sum}
 use Rattle.profile.specs.Profile as profile
-use Rattle.motion.specs.Sampling.{valuesAt}
+use Rattle.motion.specs.Sampling.{Values, valuesAt}
+use Rattle.motion.proofs.KeptRules.{Follows}
 
 -- each value at k+1 is its value at k plus the next higher derivative at k
-module _ (X : ℤ) (t : Intervals) (D : ℕ) where
-  one-sum : (f : ℕ → ℤ) (k : ℕ) → along X (sum f (k + 1)) ≡ along X (sum f k) +ℤ along X (f k)
-  unfolding sum
-  one-sum f k = ap (λ (n : ℕ). along X (sum f n)) (add-one k) ∙ along-sum X (sum f k) (f k)
+one-sum : (X : ℤ) (f : ℕ → ℤ) (k : ℕ) → along X (sum f (k + 1)) ≡ along X (sum f k) +ℤ along X (f k)
+unfolding sum
+one-sum X f k = ap (λ (n : ℕ). along X (sum f n)) (add-one k) ∙ along-sum X (sum f k) (f k)
 
+-- a value that is such a sum, by the one above it
+module _ (X : ℤ) (f : ℕ → ℤ) (x y : ℕ → ℤ) (below : (k : ℕ) → x k ≡ along X (sum f k)) (above : (k : ℕ) → y k ≡ along X (f k)) where
+  grows : (k : ℕ) → x (k + 1) ≡ x k +ℤ y k
+  grows k = below (k + 1) ∙ one-sum X f k ∙ sym (ap₂ (λ (u v : ℤ). u +ℤ v) (below k) (above k))
+
+  rests : x 0 ≡ pos 0
+  unfolding sum
+  rests = below 0 ∙ along-zero X
+
+-- from the jerk on, in either order
+module _ {X : ℤ} {j : ℕ → ℤ} {v : ℕ → Values} (f : Follows X j v) where
+  pub acceleration-sum : (k : ℕ) → v (k + 1) .acceleration ≡ v k .acceleration +ℤ v k .jerk
+  acceleration-sum = grows X j (λ k. v k .acceleration) (λ k. v k .jerk) (f .acceleration-is) (f .jerk-is)
+
+  pub velocity-sum : (k : ℕ) → v (k + 1) .velocity ≡ v k .velocity +ℤ v k .acceleration
+  velocity-sum = grows X (sum j) (λ k. v k .velocity) (λ k. v k .acceleration) (f .velocity-is) (f .acceleration-is)
+
+  pub position-sum : (k : ℕ) → v (k + 1) .position ≡ v k .position +ℤ v k .velocity
+  position-sum = grows X (sum (sum j)) (λ k. v k .position) (λ k. v k .velocity) (f .position-is) (f .velocity-is)
+
+  pub acceleration-rest : v 0 .acceleration ≡ pos 0
+  acceleration-rest = rests X j (λ k. v k .acceleration) (λ k. v k .jerk) (f .acceleration-is) (f .jerk-is)
+
+  pub velocity-rest : v 0 .velocity ≡ pos 0
+  velocity-rest = rests X (sum j) (λ k. v k .velocity) (λ k. v k .acceleration) (f .velocity-is) (f .acceleration-is)
+
+  pub position-rest : v 0 .position ≡ pos 0
+  position-rest = rests X (sum (sum j)) (λ k. v k .position) (λ k. v k .velocity) (f .position-is) (f .velocity-is)
+
+-- and the jerk of the fourth order
+module _ (X : ℤ) (t : Intervals) (D : ℕ) where
   pub jerk-sum : (k : ℕ) → valuesAt X t D (k + 1) .jerk ≡ valuesAt X t D k .jerk +ℤ valuesAt X t D k .snap
   unfolding valuesAt profile.jerk
-  jerk-sum k = one-sum _ k
+  jerk-sum k = one-sum X _ k
 
-  pub acceleration-sum :
-      (k : ℕ)
-      → valuesAt X t D (k + 1) .acceleration ≡ valuesAt X t D k .acceleration +ℤ valuesAt X t D k .jerk
-  unfolding valuesAt profile.acceleration
-  acceleration-sum k = one-sum _ k
-
-  pub velocity-sum :
-      (k : ℕ)
-      → valuesAt X t D (k + 1) .velocity ≡ valuesAt X t D k .velocity +ℤ valuesAt X t D k .acceleration
-  unfolding valuesAt profile.velocity
-  velocity-sum k = one-sum _ k
-
-  pub position-sum : (k : ℕ) → valuesAt X t D (k + 1) .position ≡ valuesAt X t D k .position +ℤ valuesAt X t D k .velocity
-  unfolding valuesAt profile.position
-  position-sum k = one-sum _ k
-
-  -- at sample 0 all are 0
   pub jerk-rest : valuesAt X t D 0 .jerk ≡ pos 0
   unfolding valuesAt profile.jerk sum
   jerk-rest = along-zero X
-
-  pub acceleration-rest : valuesAt X t D 0 .acceleration ≡ pos 0
-  unfolding valuesAt profile.acceleration sum
-  acceleration-rest = along-zero X
-
-  pub velocity-rest : valuesAt X t D 0 .velocity ≡ pos 0
-  unfolding valuesAt profile.velocity sum
-  velocity-rest = along-zero X
-
-  pub position-rest : valuesAt X t D 0 .position ≡ pos 0
-  unfolding valuesAt profile.position sum
-  position-rest = along-zero X
 
 -- a value that starts at 0 and grows by another is its sum
 pub sums-up :

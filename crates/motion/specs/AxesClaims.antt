@@ -13,7 +13,7 @@ use Rattle.planner.specs.Axes.{mostAxes, restPlan, raised, commonSamples, count
 use Rattle.planner.specs.AxesClaims.{Moving, Resting, axisAt, AcceptedAxes, CommonDuration, outcomeOfOne, placesOfOne}
 use Rattle.planner.specs.declared.Move.{Move}
 use Rattle.planner.specs.declared.Plan.{Plan}
-use Rattle.motion.specs.Sampling.{Samples}
+use Rattle.motion.specs.Sampling.{fourthOrder, Samples}
 use Rattle.motion.specs.Axes.{restSample, axisExact, SamplesAxes, axesSampleOutcome}
 use Rattle.motion.specs.Claims.{Only, RefusedBy, EndRemainder}
 use Rattle.motion.specs.Demand3.{KeptSnap, Kept, IsExactProfile}
@@ -89,5 +89,5 @@ module _ (count : ℕ) (moves : List Move) where
 
 abbrev pub SampleOfOneClaim : Type 0
 SampleOfOneClaim =
-    (m : Move) (others : List Move) (k : ℕ) (o : Result ℕ Sample) → Samples m k o
+    (m : Move) (others : List Move) (k : ℕ) (o : Result ℕ Sample) → Samples (fourthOrder m) k o
     → SamplesAxes 1 (m ∷ others) k (outcomeOfOne (λ x. tt) o) (placesOfOne restSample o)

@@ -1,6 +1,6 @@
 -- What the promises of the entries come to, over any answers that meet them: one answer (`one-motion-answer`); when a call with an accepted
--- move is refused (`accepted-refusals`); that a refusal writes nothing (`untouched`); the order of each entry's checks (`motion-order`); and
--- the remainder at the last sample (`end-remainder`).
+-- move is refused (`accepted-refusals`); that a refusal writes nothing (`untouched`); the order of each entry's checks (`motion-order`); the
+-- remainder at the last sample (`end-remainder`, `third-end-remainder`); and that the third order does not read S (`snap-unread-motion`).
 use mathlib.Core.Bool.{false}
 use mathlib.Core.List.{List, [], _∷_}
 use mathlib.Core.Logic.{_⊎_, _↔_}
@@ -14,9 +14,12 @@ use Rattle.planner.specs.Result.{Result, refused, given}
 use Rattle.planner.specs.Order.{InOrder}
 use Rattle.planner.specs.Outcome.{samplesOf, Plans}
 use Rattle.planner.specs.Claims.{Accepted}
+use Rattle.planner.specs.Third.{thirdSamplesOf, PlansThird}
+use Rattle.planner.specs.ThirdClaims.{ThirdAccepted, withSnap}
 use Rattle.planner.specs.declared.Move.{Move}
 use Rattle.planner.specs.declared.Plan.{Plan}
-use Rattle.motion.specs.Sampling.{sampleChecks, Samples}
+use Rattle.planner.specs.declared.ThirdPlan.{ThirdPlan}
+use Rattle.motion.specs.Sampling.{Motion, fourthOrder, thirdOrder, sampleChecks, Samples}
 use Rattle.motion.specs.ForceRows.Machine.{Machine, machineAsRead, machineInRange}
 use Rattle.motion.specs.Tables.{machineCheck, tableChecks, FillsPositions, FillsReference, FillsForce}
 use Rattle.motion.specs.Answer.{sampleOutcome, tableOutcome}
@@ -36,11 +39,14 @@ OneFilling {A} Promise =
     → Promise old (tableOutcome y) new′
     → (x ≡ y) × (new ≡ new′)
 
-pub record OneAnswerClaim (m : Move) : Type 0 where
-  pub sample : (k : ℕ) (x y : SampleAnswer) → Samples m k (sampleOutcome x) → Samples m k (sampleOutcome y) → x ≡ y
-  pub positions : OneFilling (FillsPositions m)
-  pub reference : OneFilling (FillsReference m)
-  pub force : (machine : Machine Float) → OneFilling (FillsForce m machine)
+pub record OneAnswer (x : Motion) : Type 0 where
+  pub sample : (k : ℕ) (y z : SampleAnswer) → Samples x k (sampleOutcome y) → Samples x k (sampleOutcome z) → y ≡ z
+  pub positions : OneFilling (FillsPositions x)
+  pub reference : OneFilling (FillsReference x)
+
+pub record OneAnswerClaim : Type 0 where
+  pub either-order : (x : Motion) → OneAnswer x
+  pub force : (m : Move) (machine : Machine Float) → OneFilling (FillsForce m machine)
 
 -- This number, where that holds; or of a set this number and place.
 pub data Only {R : Type 0} (refusal : R) (Where : Type 0) : R → Type 0 where
@@ -62,31 +68,35 @@ abbrev pub TableRefusals : {A : Type 0} → TablePromise A → (Reason : (places
 TableRefusals {A} Promise Reason = (old new : List A) (o : Result ℕ ℕ) → Promise old o new → RefusedBy o (Reason (length old))
 
 -- Demand 2: "A call with an accepted move may still be refused, but only for the rest of what it sends."
-pub record AcceptedRefusals (m : Move) : Type 0 where
-  pub sample : (k : ℕ) (o : Result ℕ Sample) → Samples m k o → RefusedBy o (Only 9 (samplesOf m < k))
-  pub positions : TableRefusals (FillsPositions m) (TableReason (samplesOf m + 1))
-  pub reference : TableRefusals (FillsReference m) (TableReason (samplesOf m + 1))
-  pub force : (machine : Machine Float) → TableRefusals (FillsForce m machine) (ForceReason machine (samplesOf m + 2))
+pub record AcceptedRefusals (x : Motion) : Type 0 where
+  pub sample : (k : ℕ) (o : Result ℕ Sample) → Samples x k o → RefusedBy o (Only 9 (x .samples < k))
+  pub positions : TableRefusals (FillsPositions x) (TableReason (x .samples + 1))
+  pub reference : TableRefusals (FillsReference x) (TableReason (x .samples + 1))
 
-abbrev pub AcceptedRefusalsClaim : Type 0
-AcceptedRefusalsClaim = (m : Move) → Accepted m → AcceptedRefusals m
+pub record AcceptedRefusalsClaim : Type 0 where
+  pub fourth : (m : Move) → Accepted m → AcceptedRefusals (fourthOrder m)
+  pub force : (m : Move) → Accepted m → (machine : Machine Float) → TableRefusals (FillsForce m machine) (ForceReason machine (samplesOf m + 2))
+  pub third : (m : Move) → ThirdAccepted m → AcceptedRefusals (thirdOrder m)
 
 -- Demand 1: "A refusal writes no place of any lent table": the table at exit is the table at entry.
 abbrev pub Untouched : {A : Type 0} → TablePromise A → Type 0
 Untouched {A} Promise = (n : ℕ) (old new : List A) → Promise old (refused n) new → new ≡ old
 
-pub record UntouchedClaim (m : Move) : Type 0 where
-  pub positions : Untouched (FillsPositions m)
-  pub reference : Untouched (FillsReference m)
-  pub force : (machine : Machine Float) → Untouched (FillsForce m machine)
+pub record UntouchedClaim : Type 0 where
+  pub positions : (x : Motion) → Untouched (FillsPositions x)
+  pub reference : (x : Motion) → Untouched (FillsReference x)
+  pub force : (m : Move) (machine : Machine Float) → Untouched (FillsForce m machine)
 
 -- "Where several apply, the lowest number is given": the checks of the entries in their order, which rises (`lowest-given`).
 pub record OrderClaim (m : Move) : Type 0 where
-  pub sample : (k : ℕ) → InOrder (sampleChecks m k) (1 ∷ 2 ∷ 3 ∷ 4 ∷ 5 ∷ 6 ∷ 7 ∷ 9 ∷ [])
-  pub table : (rows places : ℕ) → InOrder (tableChecks m [] rows places) (1 ∷ 2 ∷ 3 ∷ 4 ∷ 5 ∷ 6 ∷ 7 ∷ 8 ∷ [])
+  pub sample : (k : ℕ) → InOrder (sampleChecks (fourthOrder m) k) (1 ∷ 2 ∷ 3 ∷ 4 ∷ 5 ∷ 6 ∷ 7 ∷ 9 ∷ [])
+  pub table : (rows places : ℕ) → InOrder (tableChecks (fourthOrder m) [] rows places) (1 ∷ 2 ∷ 3 ∷ 4 ∷ 5 ∷ 6 ∷ 7 ∷ 8 ∷ [])
   pub force :
       (machine : Machine Float) (rows places : ℕ)
-      → InOrder (tableChecks m (machineCheck machine ∷ []) rows places) (1 ∷ 2 ∷ 3 ∷ 4 ∷ 5 ∷ 6 ∷ 7 ∷ 8 ∷ 10 ∷ [])
+      → InOrder (tableChecks (fourthOrder m) (machineCheck machine ∷ []) rows places) (1 ∷ 2 ∷ 3 ∷ 4 ∷ 5 ∷ 6 ∷ 7 ∷ 8 ∷ 10 ∷ [])
+  -- 6 is never given in the third order.
+  pub third-sample : (k : ℕ) → InOrder (sampleChecks (thirdOrder m) k) (1 ∷ 2 ∷ 3 ∷ 4 ∷ 5 ∷ 7 ∷ 9 ∷ [])
+  pub third-table : (rows places : ℕ) → InOrder (tableChecks (thirdOrder m) [] rows places) (1 ∷ 2 ∷ 3 ∷ 4 ∷ 5 ∷ 7 ∷ 8 ∷ [])
 
 -- No rule asks it, but a bench relies on it: at the last sample the remainder is minus the shortfall for a positive X, and plus the shortfall
 -- for a negative one. So it is below half a count in size, as the half-count rule has it.
@@ -97,5 +107,25 @@ pub record EndRemainder (X : ℤ) (shortfall : ℕ) (last : Sample) : Type 0 whe
 abbrev pub EndRemainderClaim : Type 0
 EndRemainderClaim =
     (m : Move) (plan : Plan) → Plans m (given plan)
-    → (last : Sample) → Samples m (samplesOf m) (given last)
+    → (last : Sample) → Samples (fourthOrder m) (samplesOf m) (given last)
     → EndRemainder (m .displacement) (plan .shortfall) last
+
+abbrev pub ThirdEndRemainderClaim : Type 0
+ThirdEndRemainderClaim =
+    (m : Move) (plan : ThirdPlan) → PlansThird m (given plan)
+    → (last : Sample) → Samples (thirdOrder m) (thirdSamplesOf m) (given last)
+    → EndRemainder (m .displacement) (plan .shortfall) last
+
+-- Document 02, 3, "S is not read, so refusal 6 is never given there": what the entries promise of a move in the third order they promise of
+-- it with every S, whichever it is.
+pub record SnapUnreadMotionClaim (m : Move) : Type 0 where
+  pub sample : (S₀ k : ℕ) (o : Result ℕ Sample) → Samples (thirdOrder m) k o → Samples (thirdOrder (withSnap S₀ m)) k o
+  pub positions :
+      (S₀ : ℕ) (old new : List ℤ) (o : Result ℕ ℕ)
+      → FillsPositions (thirdOrder m) old o new → FillsPositions (thirdOrder (withSnap S₀ m)) old o new
+  pub reference :
+      (S₀ : ℕ) (old new : List ℤ) (o : Result ℕ ℕ)
+      → FillsReference (thirdOrder m) old o new → FillsReference (thirdOrder (withSnap S₀ m)) old o new
+  pub sample-never-six : (k : ℕ) → Samples (thirdOrder m) k (refused 6) → ⊥
+  pub positions-never-six : (old new : List ℤ) → FillsPositions (thirdOrder m) old (refused 6) new → ⊥
+  pub reference-never-six : (old new : List ℤ) → FillsReference (thirdOrder m) old (refused 6) new → ⊥

@@ -1,5 +1,5 @@
 -- Document 01, "What demand 3 says": its lines, of any function `at` that gives the values of each sample k from 0 to N, with the product P
--- and E, the exact profile times P, all plain; then that what the entries give for an accepted move keeps them.
+-- and E, the exact profile times P, all plain; then that what the entries give for an accepted move keeps them, in either order.
 use mathlib.Core.List.{List}
 use mathlib.Core.Path.{_≡_}
 use Prim.Native.Nat.{ℕ, _+_, _≤_, _<_}
@@ -11,9 +11,11 @@ use Rattle.planner.specs.Intervals.{Intervals, p, q, r, s, N, P}
 use Rattle.planner.specs.Result.{Result, given}
 use Rattle.planner.specs.Outcome.{distanceOf, intervalsOf, samplesOf}
 use Rattle.planner.specs.Claims.{Accepted}
+use Rattle.planner.specs.Third.{P₃, thirdIntervalsOf, thirdSamplesOf}
+use Rattle.planner.specs.ThirdClaims.{ThirdAccepted}
 use Rattle.planner.specs.declared.Move.{Move}
-use Rattle.profile.specs.Profile.{segments, snapIn, sum}
-use Rattle.motion.specs.Sampling.{exactPositionTimesP, unitsOf, Samples}
+use Rattle.profile.specs.Profile.{segments, switchedIn, sum}
+use Rattle.motion.specs.Sampling.{exactPositionTimesP, thirdExactTimesP, unitsOf, Motion, fourthOrder, thirdOrder, Samples}
 use Rattle.motion.specs.Tables.{FillsPositions}
 use Rattle.motion.specs.declared.Sample.{Sample}
 
@@ -60,32 +62,49 @@ module _ (m : Move) (N P : ℕ) (E : ℕ → ℤ) (at : ℕ → Sample) where
     pub velocity-end : at N .velocity ≡ pos 0
     pub count-end : at N .count ≡ m .displacement
 
--- Demand 3, for the rule's own N, P and E: `sample` is what the one-sample entry gives at each k, and `table` the position table.
-pub record Demand3 (m : Move) (sample : ℕ → Result ℕ Sample) (table : List ℤ) : Type 0 where
+-- What the two orders share, for the N, P and E of a motion x of the move: `sample` is what the one-sample entry gives at each k, and
+-- `table` the position table.
+pub record Demand3Of (m : Move) (x : Motion) (sample : ℕ → Result ℕ Sample) (table : List ℤ) : Type 0 where
   -- The values that the entry gives for each k from 0 to N.
   pub at : ℕ → Sample
-  pub answered : (k : ℕ) → k ≤ samplesOf m → sample k ≡ given (at k)
+  pub answered : (k : ℕ) → k ≤ x .samples → sample k ≡ given (at k)
   -- The table has places 0 to N, and its place k is the entry's position at k.
-  pub table-places : samplesOf m < length table
-  pub table-position : (k : ℕ) → k ≤ samplesOf m → getD table k (pos 0) ≡ at k .position
-  pub kept-snap : KeptSnap m (samplesOf m) at
-  pub kept : Kept m (samplesOf m) (P (intervalsOf m)) (exactPositionTimesP m) at
+  pub table-places : x .samples < length table
+  pub table-position : (k : ℕ) → k ≤ x .samples → getD table k (pos 0) ≡ at k .position
+  pub kept : Kept m (x .samples) (x .product) (x .exact) at
+
+-- Demand 3: the fourth order adds the lines on the snap.
+pub record Demand3 (m : Move) (sample : ℕ → Result ℕ Sample) (table : List ℤ) : Type 0 where
+  pub shared : Demand3Of m (fourthOrder m) sample table
+  pub kept-snap : KeptSnap m (samplesOf m) (shared .at)
+
+-- The third order (document 02, 3) has none: the jerk at sample 0 is "as its stretches say", and the snap "is given as 0".
+pub record ThirdDemand3 (m : Move) (sample : ℕ → Result ℕ Sample) (table : List ℤ) : Type 0 where
+  pub shared : Demand3Of m (thirdOrder m) sample table
+  pub snap-none : (k : ℕ) → k ≤ thirdSamplesOf m → shared .at k .snap ≡ pos 0
 
 -- For every accepted move: every function of k that meets the one-sample entry's promise at each k from 0 to N, and every table of at
 -- least N+1 places that meets the position table's promise.
-abbrev pub Demand3Claim : Type 0
-Demand3Claim =
-    (m : Move) → Accepted m
+abbrev pub Demand3For :
+    (Accepts : Move → Type 0) (order : Move → Motion) (Claim : Move → (ℕ → Result ℕ Sample) → List ℤ → Type 0) → Type 0
+Demand3For Accepts order Claim =
+    (m : Move) → Accepts m
     → (sample : ℕ → Result ℕ Sample)
-    → ((k : ℕ) → k ≤ samplesOf m → Samples m k (sample k))
+    → ((k : ℕ) → k ≤ order m .samples → Samples (order m) k (sample k))
     → (old new : List ℤ) (o : Result ℕ ℕ)
-    → samplesOf m + 1 ≤ length old
-    → FillsPositions m old o new
-    → Demand3 m sample new
+    → order m .samples + 1 ≤ length old
+    → FillsPositions (order m) old o new
+    → Claim m sample new
+
+abbrev pub Demand3Claim : Type 0
+Demand3Claim = Demand3For Accepted fourthOrder Demand3
+
+abbrev pub ThirdDemand3Claim : Type 0
+ThirdDemand3Claim = Demand3For ThirdAccepted thirdOrder ThirdDemand3
 
 -- "the profile with W for D": a snap of size W in the stretches.
 abbrev pub exactSnap : Move → Intervals → ℕ → ℤ
-exactSnap m t = snapIn (segments (p t) (q t) (r t) (s t)) (distanceOf m)
+exactSnap m t = switchedIn (segments (p t) (q t) (r t) (s t)) (distanceOf m)
 
 -- What E is in the intervals t: summed four times from rest, in the direction of X; and at sample N it is P·G·X.
 pub record IsExactProfile (m : Move) (t : Intervals) (E : ℕ → ℤ) : Type 0 where
@@ -94,3 +113,8 @@ pub record IsExactProfile (m : Move) (t : Intervals) (E : ℕ → ℤ) : Type 0 
 
 abbrev pub ExactProfileClaim : Type 0
 ExactProfileClaim = (m : Move) → IsExactProfile m (intervalsOf m) (exactPositionTimesP m)
+
+-- In the third order E is by its definition the sum of a jerk of size W; this is what it comes to at sample N.
+abbrev pub ThirdExactProfileClaim : Type 0
+ThirdExactProfileClaim =
+    (m : Move) → thirdExactTimesP m (thirdSamplesOf m) ≡ pos (P₃ (thirdIntervalsOf m)) *ℤ unitsOf (m .displacement)

@@ -6,5 +6,5 @@ pub mod Steps
 pub mod Planned
 pub mod PlannedAxes
 pub mod Runs
-pub mod SegmentSnaps
+pub mod SegmentLists
 pub mod Rows

@@ -1,14 +1,17 @@
--- Document 01, "The profile": the five values of a sample, and what the one-sample entry gives; document 02, 2: the remainder.
+-- Document 01, "The profile": the five values of a sample, and what the one-sample entry gives; document 02, 2: the remainder; and 3: the
+-- values in the third order.
 use mathlib.Core.List.{List, [], _∷_, _++_}
 use mathlib.Core.Path.{_≡_}
-use Prim.Native.Nat.{ℕ, _*_, _≤_, _<_}
+use Prim.Native.Nat.{ℕ, _-_, _*_, _≤_, _<_}
 use lib.Dec.{ltb}
 use lib.IntN.{ℤ, pos, natAbs, _+ℤ_, _*ℤ_}
 use Rattle.planner.specs.Quantities.{unitsPerCount, along}
-use Rattle.planner.specs.Intervals.{Intervals, p, q, r, s, D}
+use Rattle.planner.specs.Intervals.{Intervals, p, q, r, s, P, D}
 use Rattle.planner.specs.Result.{Result, given, Check, check, firstRefusal}
 use Rattle.planner.specs.Outcome.{distanceOf, intervalsOf, samplesOf, checks}
+use Rattle.planner.specs.Third.{ThirdIntervals, P₃, jerkSize, thirdIntervalsOf, thirdSamplesOf, thirdChecks}
 use Rattle.planner.specs.declared.Move.{Move}
+use Rattle.profile.specs.Profile.{sevenSegments, switchedIn, sum}
 use Rattle.profile.specs.Profile as profile
 use Rattle.motion.specs.declared.Sample.{Sample}
 
@@ -30,6 +33,18 @@ valuesAt X t D k =
       position = along X (profile.position (p t) (q t) (r t) (s t) D k);
     }
 
+-- The same in the third order, with a jerk of size D: "Three sums replace four", and "A sample's snap is given as 0".
+unfoldable pub thirdValuesAt : (X : ℤ) (t : ThirdIntervals) (D k : ℕ) → Values
+thirdValuesAt X t D k =
+    let jerk = switchedIn (sevenSegments (t .b) (t .c - t .b) (t .e - t .b - t .c)) D in
+    record {
+      snap = pos 0;
+      jerk = along X (jerk k);
+      acceleration = along X (sum jerk k);
+      velocity = along X (sum (sum jerk) k);
+      position = along X (sum (sum (sum jerk)) k);
+    }
+
 module _ (m : Move) where
   -- Of the move, by its rules.
   unfoldable pub valuesOf : (k : ℕ) → Values
@@ -38,6 +53,41 @@ module _ (m : Move) where
   -- "the exact profile times P is the profile with W for D": the paper's E.
   unfoldable pub exactPositionTimesP : (k : ℕ) → ℤ
   exactPositionTimesP k = valuesAt (m .displacement) (intervalsOf m) (distanceOf m) k .position
+
+  -- In the third order.
+  unfoldable pub thirdValuesOf : (k : ℕ) → Values
+  thirdValuesOf = thirdValuesAt (m .displacement) (thirdIntervalsOf m) (jerkSize (thirdIntervalsOf m) (distanceOf m))
+
+  unfoldable pub thirdExactTimesP : (k : ℕ) → ℤ
+  thirdExactTimesP k = thirdValuesAt (m .displacement) (thirdIntervalsOf m) (distanceOf m) k .position
+
+-- What the rules of one order say of a move: the planner's refusals, N, P, the values at each sample, and E.
+pub record Motion : Type 0 where
+  pub refusals : List (Check ℕ)
+  pub samples : ℕ
+  pub product : ℕ
+  pub values : (k : ℕ) → Values
+  pub exact : (k : ℕ) → ℤ
+
+abbrev pub fourthOrder : Move → Motion
+fourthOrder m =
+    record {
+      refusals = checks m;
+      samples = samplesOf m;
+      product = P (intervalsOf m);
+      values = valuesOf m;
+      exact = exactPositionTimesP m;
+    }
+
+abbrev pub thirdOrder : Move → Motion
+thirdOrder m =
+    record {
+      refusals = thirdChecks m;
+      samples = thirdSamplesOf m;
+      product = P₃ (thirdIntervalsOf m);
+      values = thirdValuesOf m;
+      exact = thirdExactTimesP m;
+    }
 
 -- c counts in sub-count units: the paper's G·c.
 abbrev pub unitsOf : ℤ → ℤ
@@ -68,15 +118,16 @@ sampleOf v r =
       remainder = r .remainder;
     }
 
-module _ (m : Move) (k : ℕ) where
-  -- Refusals 1 to 7, then 9: "sample asked above N".
+-- Of a move in either order.
+module _ (x : Motion) (k : ℕ) where
+  -- The planner's refusals, then 9: "sample asked above N".
   abbrev pub sampleChecks : List (Check ℕ)
-  sampleChecks = checks m ++ (check 9 (ltb (samplesOf m) k) ∷ [])
+  sampleChecks = x .refusals ++ (check 9 (ltb (x .samples) k) ∷ [])
 
-  unfoldable pub sampleWith : Rounding (valuesOf m k .position) → Result ℕ Sample
-  sampleWith r = firstRefusal sampleChecks (given (sampleOf (valuesOf m k) r))
+  unfoldable pub sampleWith : Rounding (x .values k .position) → Result ℕ Sample
+  sampleWith r = firstRefusal sampleChecks (given (sampleOf (x .values k) r))
 
   -- What the one-sample entry promises of the outcome of its answer.
   pub record Samples (o : Result ℕ Sample) : Type 0 where
-    pub rounding : Rounding (valuesOf m k .position)
+    pub rounding : Rounding (x .values k .position)
     pub outcome-is : o ≡ sampleWith rounding

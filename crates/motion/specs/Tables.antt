@@ -8,9 +8,9 @@ use lib.IntN.{ℤ}
 use lib.Ieee.{Float}
 use lib.ListN.{length, drop}
 use Rattle.planner.specs.Result.{Result, refused, given, Check, check, firstRefusal}
-use Rattle.planner.specs.Outcome.{samplesOf, checks}
+use Rattle.planner.specs.Outcome.{samplesOf}
 use Rattle.planner.specs.declared.Move.{Move}
-use Rattle.motion.specs.Sampling.{valuesOf}
+use Rattle.motion.specs.Sampling.{valuesOf, Motion, fourthOrder}
 use Rattle.motion.specs.ForceRows.Machine.{Machine, machineAsRead, machineInRange}
 use Rattle.motion.specs.ForceRows.Doubled.{Doubled, doubledValues}
 use Rattle.motion.specs.ForceRows.Force.{forceRow}
@@ -29,10 +29,11 @@ tableOf (given n) rows old = rows ++ drop (length rows) old
 abbrev pub machineCheck : Machine Float → Check ℕ
 machineCheck machine = check 10 (not (machineInRange (machineAsRead machine)))
 
-module _ (m : Move) where
-  -- Refusals 1 to 7, then 8: the table has fewer places than there are rows; then the entry's own; else how many rows were written.
+-- Of a move in either order.
+module _ (x : Motion) where
+  -- The planner's refusals, then 8: the table has fewer places than there are rows; then the entry's own; else how many rows were written.
   abbrev pub tableChecks : (own : List (Check ℕ)) (rows places : ℕ) → List (Check ℕ)
-  tableChecks own rows places = checks m ++ (check 8 (ltb places rows) ∷ own)
+  tableChecks own rows places = x .refusals ++ (check 8 (ltb places rows) ∷ own)
 
   unfoldable pub tableResult : (own : List (Check ℕ)) (rows places : ℕ) → Result ℕ ℕ
   tableResult own rows places = firstRefusal (tableChecks own rows places) (given rows)
@@ -44,16 +45,18 @@ module _ (m : Move) where
 
   -- What the position table's entry promises: "places 0 to N receive positions", and 8 for a "table under N+1 places".
   unfoldable pub FillsPositions : (old : List ℤ) (o : Result ℕ ℕ) (new : List ℤ) → Type 0
-  FillsPositions = Fills [] (samplesOf m + 1) (λ k. valuesOf m k .position)
+  FillsPositions = Fills [] (x .samples + 1) (λ k. x .values k .position)
 
   -- "A reference row for the feedback loop holds position[k], undelayed, for k from 0 to N."
   unfoldable pub referenceRow : ℕ → ℤ
-  referenceRow k = valuesOf m k .position
+  referenceRow k = x .values k .position
 
   -- What the reference table's entry promises.
   unfoldable pub FillsReference : (old : List ℤ) (o : Result ℕ ℕ) (new : List ℤ) → Type 0
-  FillsReference = Fills [] (samplesOf m + 1) referenceRow
+  FillsReference = Fills [] (x .samples + 1) referenceRow
 
+-- The fourth order alone has force rows.
+module _ (m : Move) where
   -- d2, j2, a2 and v2 of row k.
   unfoldable pub rowNumbers : ℕ → Doubled ℤ
   rowNumbers = doubledValues (samplesOf m) (valuesOf m)
@@ -63,4 +66,4 @@ module _ (m : Move) where
 
   -- What the force table's entry promises: 8 for a "table under .. N+2" places, then 10.
   unfoldable pub FillsForce : Machine Float → (old : List Float) (o : Result ℕ ℕ) (new : List Float) → Type 0
-  FillsForce machine = Fills (machineCheck machine ∷ []) (samplesOf m + 2) (force machine)
+  FillsForce machine = Fills (fourthOrder m) (machineCheck machine ∷ []) (samplesOf m + 2) (force machine)

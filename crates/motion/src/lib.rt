@@ -1,5 +1,5 @@
-// One sample of a move or of a set of axes, and the tables that the drive and the feedback loop play. Every entry takes the moves' own
-// numbers and plans inside.
+// One sample of a move, in the fourth or the third order, or of a set of axes, and the tables that the drive and the feedback loop play.
+// Every entry takes the moves' own numbers and plans inside.
 mod axes;
 mod count;
 mod force;
@@ -10,23 +10,28 @@ mod segments;
 mod snap;
 mod state;
 mod sums;
+mod third;
 
 use crate::axes::sample_axis;
 use crate::force::table::write_rows;
 use crate::planned::samples_in_plan;
+use crate::planned::samples_in_third;
 use crate::positions::table::write_positions;
 use crate::refusal::no_samples;
-use crate::refusal::unfilled;
-use crate::refusal::unsampled;
+use crate::refusal::plan_refusal;
+use crate::refusal::third_refusal;
 use crate::refusal::unsampled_axes;
 use crate::sums::sample_in_plan;
+use crate::third::sums::sample_in_third;
+use crate::third::table::write_third;
 use planner::AxesAnswer;
 use planner::MOST_AXES;
 use planner::Move;
 use planner::PlanAnswer;
 use planner::Refusal;
+use planner::ThirdAnswer;
 ghost use mathlib.Core.Path.{_≡_};
-ghost use Rattle.motion.specs.Sampling.{Samples};
+ghost use Rattle.motion.specs.Sampling.{fourthOrder, thirdOrder, Samples};
 ghost use Rattle.motion.specs.Axes.{SamplesAxes, axesSampleOutcome};
 ghost use Rattle.motion.specs.Tables.{FillsPositions, FillsReference, FillsForce};
 ghost use Rattle.motion.specs.Answer.{number, machineOf, sampleOutcome, tableOutcome};
@@ -99,11 +104,11 @@ pub enum TableAnswer {
 
 // The values of a move at sample k, from 0 to N.
 pub fn sample_move(m: Move, k: u64) -> SampleAnswer
-    ensures { λ r. ⌜ Samples m k (sampleOutcome r) ⌝ }
+    ensures { λ r. ⌜ Samples (fourthOrder m) k (sampleOutcome r) ⌝ }
 {
     let answer = planner::plan_move(m);
     let PlanAnswer::Planned(plan) = answer else {
-        return unsampled(answer);
+        return SampleAnswer::Refused(plan_refusal(answer));
     };
     if samples_in_plan(plan) < k {
         return SampleAnswer::Refused(MotionRefusal::PastEnd);
@@ -141,22 +146,22 @@ pub fn sample_axes(count: u64, moves: [Move; MOST_AXES], k: u64) -> AxesSample
 
 // Fills a table with the positions of a move at samples 0 to N, for the drive to play.
 pub fn fill_positions(m: Move, table: &mut [i64]) -> TableAnswer
-    ensures { λ r. ⌜ FillsPositions m (now (table .entry)) (tableOutcome r) (now (table .exit)) ⌝ }
+    ensures { λ r. ⌜ FillsPositions (fourthOrder m) (now (table .entry)) (tableOutcome r) (now (table .exit)) ⌝ }
 {
     let answer = planner::plan_move(m);
     let PlanAnswer::Planned(plan) = answer else {
-        return unfilled(answer);
+        return TableAnswer::Refused(plan_refusal(answer));
     };
     write_positions(table, m.displacement, plan)
 }
 
 // Fills a table with the reference rows of a move at samples 0 to N, for the feedback loop. By the rule they are its positions.
 pub fn fill_reference(m: Move, table: &mut [i64]) -> TableAnswer
-    ensures { λ r. ⌜ FillsReference m (now (table .entry)) (tableOutcome r) (now (table .exit)) ⌝ }
+    ensures { λ r. ⌜ FillsReference (fourthOrder m) (now (table .entry)) (tableOutcome r) (now (table .exit)) ⌝ }
 {
     let answer = planner::plan_move(m);
     let PlanAnswer::Planned(plan) = answer else {
-        return unfilled(answer);
+        return TableAnswer::Refused(plan_refusal(answer));
     };
     write_positions(table, m.displacement, plan)
 }
@@ -167,9 +172,45 @@ pub fn fill_force(m: Move, machine: Machine, table: &mut [f64]) -> TableAnswer
 {
     let answer = planner::plan_move(m);
     let PlanAnswer::Planned(plan) = answer else {
-        return unfilled(answer);
+        return TableAnswer::Refused(plan_refusal(answer));
     };
     write_rows(table, m.displacement, plan, machine)
+}
+
+// The values of a move in the third order at sample k, from 0 to N.
+pub fn sample_third(m: Move, k: u64) -> SampleAnswer
+    ensures { λ r. ⌜ Samples (thirdOrder m) k (sampleOutcome r) ⌝ }
+{
+    let answer = planner::plan_third(m);
+    let ThirdAnswer::Planned(plan) = answer else {
+        return SampleAnswer::Refused(third_refusal(answer));
+    };
+    if samples_in_third(plan) < k {
+        return SampleAnswer::Refused(MotionRefusal::PastEnd);
+    }
+    SampleAnswer::Sampled(sample_in_third(m.displacement, plan, k))
+}
+
+// Fills a table with the positions of a move in the third order at samples 0 to N.
+pub fn fill_positions_third(m: Move, table: &mut [i64]) -> TableAnswer
+    ensures { λ r. ⌜ FillsPositions (thirdOrder m) (now (table .entry)) (tableOutcome r) (now (table .exit)) ⌝ }
+{
+    let answer = planner::plan_third(m);
+    let ThirdAnswer::Planned(plan) = answer else {
+        return TableAnswer::Refused(third_refusal(answer));
+    };
+    write_third(table, m.displacement, plan)
+}
+
+// Fills a table with the reference rows of a move in the third order at samples 0 to N. By the rule they are its positions.
+pub fn fill_reference_third(m: Move, table: &mut [i64]) -> TableAnswer
+    ensures { λ r. ⌜ FillsReference (thirdOrder m) (now (table .entry)) (tableOutcome r) (now (table .exit)) ⌝ }
+{
+    let answer = planner::plan_third(m);
+    let ThirdAnswer::Planned(plan) = answer else {
+        return TableAnswer::Refused(third_refusal(answer));
+    };
+    write_third(table, m.displacement, plan)
 }
 
 // The paper's number of a refusal.

@@ -4,37 +4,38 @@ use crate::AxesSample;
 use crate::AxesSampleAnswer;
 use crate::MotionRefusal;
 use crate::REST;
-use crate::SampleAnswer;
-use crate::TableAnswer;
 use planner::AxesAnswer;
 use planner::MOST_AXES;
 use planner::PlanAnswer;
+use planner::ThirdAnswer;
 ghost use mathlib.Core.Path.{_≡_};
 ghost use lib.ListN.{replicate};
 ghost use Rattle.planner.specs.Axes.{mostAxes, axesOutcome};
 ghost use Rattle.planner.specs.Claims.{IsPlanned};
 ghost use Rattle.planner.specs.Outcome.{outcome};
-ghost use Rattle.motion.specs.Answer.{sampleOutcome, tableOutcome};
+ghost use Rattle.planner.specs.Result.{refused};
+ghost use Rattle.planner.specs.Third.{thirdOutcome};
+ghost use Rattle.motion.specs.Answer.{number};
 ghost use Rattle.motion.specs.Axes.{restSample, axesSampleOutcome};
 ghost use Rattle.motion.specs.Inner.Planned.{PassedOn};
 
-pub(crate) fn unsampled(answer: PlanAnswer) -> SampleAnswer
+pub(crate) fn plan_refusal(answer: PlanAnswer) -> MotionRefusal
     requires { ⌜ (IsPlanned (outcome answer) → ⊥) ⌝ }
-    ensures { λ r. ⌜ PassedOn (outcome answer) (sampleOutcome r) ⌝ }
+    ensures { λ r. ⌜ outcome answer ≡ refused (number r) ⌝ }
 {
     match answer {
-        PlanAnswer::Refused(refusal) => SampleAnswer::Refused(MotionRefusal::Unplanned(refusal)),
-        PlanAnswer::Planned(plan) => SampleAnswer::Sampled(REST),
+        PlanAnswer::Refused(refusal) => MotionRefusal::Unplanned(refusal),
+        PlanAnswer::Planned(plan) => MotionRefusal::PastEnd,
     }
 }
 
-pub(crate) fn unfilled(answer: PlanAnswer) -> TableAnswer
-    requires { ⌜ (IsPlanned (outcome answer) → ⊥) ⌝ }
-    ensures { λ r. ⌜ PassedOn (outcome answer) (tableOutcome r) ⌝ }
+pub(crate) fn third_refusal(answer: ThirdAnswer) -> MotionRefusal
+    requires { ⌜ (IsPlanned (thirdOutcome answer) → ⊥) ⌝ }
+    ensures { λ r. ⌜ thirdOutcome answer ≡ refused (number r) ⌝ }
 {
     match answer {
-        PlanAnswer::Refused(refusal) => TableAnswer::Refused(MotionRefusal::Unplanned(refusal)),
-        PlanAnswer::Planned(plan) => TableAnswer::Filled(0),
+        ThirdAnswer::Refused(refusal) => MotionRefusal::Unplanned(refusal),
+        ThirdAnswer::Planned(plan) => MotionRefusal::PastEnd,
     }
 }
 

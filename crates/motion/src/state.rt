@@ -1,6 +1,6 @@
 // A sample, with the four sums there, and the step to the next.
 ghost use mathlib.Core.Path.{_≡_};
-ghost use Rattle.motion.specs.Inner.Steps.{StepFits, stepped, rest};
+ghost use Rattle.motion.specs.Inner.Steps.{StepFits, stepped, rest, sumsIn, withJerk};
 
 pub(crate) struct State {
     pub sample: u64,
@@ -26,6 +26,19 @@ pub(crate) fn step(state: State, snap: i64) -> State
         acceleration,
         velocity,
         position,
+    }
+}
+
+// The state with this jerk: the third order does not sum it.
+pub(crate) fn holding(state: State, jerk: i64) -> State
+    ensures { λ r. ⌜ r ≡ withJerk (sumsIn state) jerk ⌝ }
+{
+    State {
+        sample: state.sample,
+        jerk,
+        acceleration: state.acceleration,
+        velocity: state.velocity,
+        position: state.position,
     }
 }
 

@@ -1,102 +1,74 @@
--- What the promises of the C entries come to for their caller.
+-- What the promises of the C entries come to for their caller, in either order.
 use mathlib.Core.List.{List}
-use mathlib.Core.Path.{_≡_, refl, sym, ap, _∙_}
+use mathlib.Core.Path.{_≡_, refl, ap, _∙_}
 use Prim.Native.Nat.{ℕ, _+_, _≤_}
 use native.Mathlib.Nat.{le-refl, le-of-eq}
 use native.Mathlib.Omega.{arith}
 use lib.IntN.{ℤ}
 use lib.ListN.{length}
-use Rattle.planner.specs.Result.{Result, refused, given}
-use Rattle.planner.specs.Outcome.{samplesOf, Plans}
-use Rattle.planner.specs.Claims.{Accepted, IsPlanned}
+use Rattle.planner.specs.Result.{Each, Result, given}
 use Rattle.planner.specs.declared.Move.{Move}
-use Rattle.planner.specs.declared.Plan.{Plan}
-use Rattle.planner.proofs.Acceptance.{acceptance}
-use Rattle.planner.proofs.PlannedFacts.{planned-facts}
-use Rattle.planner.proofs.RuleRefusals.{refused-most}
+use Rattle.planner.proofs.RefusalLaws.{Passes}
+use Rattle.motion.specs.Demand3.{Demand3Of}
+use Rattle.motion.specs.Sampling.{Motion}
 use Rattle.motion.specs.Tables.{FillsPositions}
-use Rattle.motion.proofs.Demand3.{demand-3}
-use Rattle.motion.proofs.EntryLaws.{samples-are}
+use Rattle.motion.specs.declared.Sample.{Sample}
+use Rattle.motion.proofs.Demand3.{sampled}
 use Rattle.motion.proofs.FillLaws.{filled-outcome}
 use Rattle.motion.proofs.SamplingLaws.{ruleSample, rule-samples, only-sample}
-use Rattle.nitswolan.specs.Fields.{Answers, planFields, sampleFields, tableFields}
-use Rattle.nitswolan.specs.Claims.{AcceptedClaim, CallerFacts, CallerClaim}
-use Rattle.nitswolan.specs.declared.plan.PlanResult.{PlanResult}
+use Rattle.nitswolan.specs.Fields.{Answers, sampleFields, tableFields}
+use Rattle.nitswolan.specs.Claims.{CallerFacts, CallerFor, CallerClaim}
 use Rattle.nitswolan.specs.declared.sample.SampleResult.{SampleResult}
 use Rattle.nitswolan.specs.declared.table.TableResult.{TableResult}
-
-no-refusal : (o : Result ℕ Plan) → IsPlanned o → planFields o .refusal ≡ 0
-no-refusal (refused n) p = absurd p
-no-refusal (given x) p = refl
-
-module _ {m : Move} where
-  -- an outcome whose struct has refusal 0 is a plan, since no refusal has the number 0
-  planned : (o : Result ℕ Plan) → Plans m o → planFields o .refusal ≡ 0 → IsPlanned o
-  planned (refused n) h q = absurd (omega (arith, q, refused-most m n (sym (h .outcome-is)) .0))
-  planned (given x) h q = tt
-
-  -- N stands in `samples`
-  samples-of : (o : Result ℕ Plan) → Plans m o → IsPlanned o → planFields o .samples ≡ samplesOf m
-  samples-of (refused n) h p = absurd p
-  samples-of (given x) h p = samples-are (planned-facts h)
-
-  module _ {x : PlanResult} (h : Answers planFields (Plans m) x) where
-    refusal-is : x .refusal ≡ planFields (h .outcome) .refusal
-    refusal-is = ap (λ (y : PlanResult). y .refusal) (h .fields-are)
-
-    is-planned : x .refusal ≡ 0 → IsPlanned (h .outcome)
-    is-planned r = planned (h .outcome) (h .promised) (sym refusal-is ∙ r)
-
-    pub accepted : x .refusal ≡ 0 → Accepted m
-    accepted r = acceptance m (h .outcome) (h .promised) .0 (is-planned r)
-
-    pub samples : x .refusal ≡ 0 → x .samples ≡ samplesOf m
-    samples r = ap (λ (y : PlanResult). y .samples) (h .fields-are) ∙ samples-of (h .outcome) (h .promised) (is-planned r)
-
-pub accepted-claim : AcceptedClaim
-accepted-claim m x h = (accepted h, λ k. refusal-is h ∙ no-refusal (h .outcome) (acceptance m (h .outcome) (h .promised) .1 k))
+use Rattle.nitswolan.proofs.PlanLaws.{Reading, fourth, third}
 
 -- a table with room is filled whole
 filled-all :
-    {m : Move} (old new : List ℤ) {t : TableResult}
-    → Accepted m
-    → samplesOf m + 1 ≤ length old
-    → Answers tableFields (λ o. FillsPositions m old o new) t
-    → t ≡ tableFields (given (samplesOf m + 1))
+    (x : Motion) (old new : List ℤ) {t : TableResult}
+    → Each Passes (x .refusals)
+    → x .samples + 1 ≤ length old
+    → Answers tableFields (λ o. FillsPositions x old o new) t
+    → t ≡ tableFields (given (x .samples + 1))
 unfolding FillsPositions
-filled-all old new a l f = f .fields-are ∙ ap tableFields (filled-outcome a l tt (f .promised))
+filled-all x old new p l f = f .fields-are ∙ ap tableFields (filled-outcome p l tt (f .promised))
 
-pub caller-facts : CallerClaim
-caller-facts m x h r sample promised old new t room f =
-    let a = accepted h r in
-    let n = samples h r in
-    let room′ : samplesOf m + 1 ≤ length old = omega (arith, n, room) in
-    let claim = demand-3 m a (ruleSample m) (λ k l. rule-samples m k refl) old new (f .outcome) room′ (f .promised) in
-    let fields : (k : ℕ) → k ≤ samplesOf m → sample k ≡ sampleFields (ruleSample m k) =
+pub caller-by : {R : Type 0} (p : Reading R) → CallerFor (p .refusal) (p .samples) (p .Promise) (p .order) (p .Demand)
+caller-by p m plan h r sample promised old new t room f =
+    let x : Motion = p .order m in
+    let a = p .accepts m plan h .0 r in
+    let n = p .samples-are m plan h r in
+    let room′ : x .samples + 1 ≤ length old = omega (arith, n, room) in
+    let fields : (k : ℕ) → k ≤ x .samples → sample k ≡ sampleFields (ruleSample x k) =
     λ k l.
-    let p = promised k (omega (arith, l, n)) in
-    p .fields-are ∙ ap sampleFields (only-sample m k (p .promised)) in
-    let given-at : (k : ℕ) → k ≤ samplesOf m → sample k ≡ sampleFields (given (claim .at k)) =
-    λ k l. fields k l ∙ ap sampleFields (claim .answered k l) in
-    let rows = filled-all old new a room′ f in
+    let answer = promised k (omega (arith, l, n)) in
+    answer .fields-are ∙ ap sampleFields (only-sample x k (answer .promised)) in
+    let given-at : (k : ℕ) → k ≤ x .samples → sample k .refusal ≡ 0 =
+    λ k l.
+    ap (λ (y : SampleResult). y .refusal)
+    (fields k l ∙ ap sampleFields (sampled x (p .passes m a) l (rule-samples x k refl))) in
+    let rows = filled-all x old new (p .passes m a) room′ f in
     record {
       samples-are = n;
-      sampled = λ k l. ap (λ (y : SampleResult). y .refusal) (given-at k (omega (arith, l, n)));
+      sampled = λ k l. given-at k (omega (arith, l, n));
       not-refused = ap (λ (y : TableResult). y .refusal) rows;
       rows-are = omega (arith, n, ap (λ (y : TableResult). y .rows) rows);
-      outcome = ruleSample m;
+      outcome = ruleSample x;
       sample-fields = λ k l. fields k (omega (arith, l, n));
-      demand-3 = claim;
+      demand-3 = p .demand m a (ruleSample x) (λ k l. rule-samples x k refl) old new (f .outcome) room′ (f .promised);
     }
+
+pub caller-facts : CallerClaim
+caller-facts = record { fourth = caller-by fourth; third = caller-by third }
 
 -- The last sample's struct has the count asked for.
 pub last-count :
-    {m : Move} {x : PlanResult} {sample : ℕ → SampleResult} {t : TableResult} {table : List ℤ}
-    → CallerFacts m x sample t table
-    → sample (x .samples) .count ≡ m .displacement
-last-count {m} {x} f =
-    let last = le-of-eq (f .samples-are) in
+    {m : Move} {x : Motion} {n : ℕ} {Demand : (ℕ → Result ℕ Sample) → List ℤ → Type 0}
+    {sample : ℕ → SampleResult} {t : TableResult} {table : List ℤ}
+    → (f : CallerFacts (x .samples) n Demand sample t table)
+    → Demand3Of m x (f .outcome) table
+    → sample n .count ≡ m .displacement
+last-count {n = n} f d =
     ap (λ (y : SampleResult). y .count)
-    (f .sample-fields (x .samples) (le-refl (x .samples)) ∙ ap sampleFields (f .demand-3 .answered (x .samples) last))
-    ∙ ap (λ (k : ℕ). f .demand-3 .at k .count) (f .samples-are)
-    ∙ f .demand-3 .kept .count-end
+    (f .sample-fields n (le-refl n) ∙ ap sampleFields (d .answered n (le-of-eq (f .samples-are))))
+    ∙ ap (λ (k : ℕ). d .at k .count) (f .samples-are)
+    ∙ d .kept .count-end

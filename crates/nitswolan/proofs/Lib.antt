@@ -1,4 +1,5 @@
 -- The answers in their structs, and that each promise leaves one.
+pub mod StructLaws
 pub mod PlanLaws
 pub mod SampleLaws
 pub mod OneAnswer

@@ -1,61 +1,49 @@
 -- What `caller-facts` assumes can be met: the structs that the rules' own answers fill meet the promises, for every accepted move.
-use mathlib.Core.List.{[]}
-use mathlib.Core.Path.{_≡_, refl, ap}
+use mathlib.Core.Path.{refl}
 use Prim.Native.Nat.{ℕ}
 use native.Mathlib.Omega.{arith}
-use lib.IntN.{pos}
-use lib.ListN.{length-replicate}
 use Rattle.planner.specs.Result.{Result}
 use Rattle.planner.specs.Outcome.{outcomeOf, Plans}
-use Rattle.planner.specs.Claims.{Accepted, mirrored}
+use Rattle.planner.specs.Claims.{mirrored}
+use Rattle.planner.specs.Third.{thirdOutcomeOf, PlansThird}
 use Rattle.planner.specs.declared.Move.{Move}
-use Rattle.planner.specs.declared.Plan.{Plan}
-use Rattle.planner.proofs.Acceptance.{accepted-outcome}
 use Rattle.planner.proofs.Mirror.{mirror}
 use Rattle.planner.proofs.StarredMoves.{firstStarred, first-accepted}
-use Rattle.motion.specs.Tables.{FillsPositions}
-use Rattle.motion.specs.Sampling.{valuesOf}
+use Rattle.motion.specs.Sampling.{Motion}
 use Rattle.motion.proofs.SamplingLaws.{ruleSample, rule-samples}
-use Rattle.motion.proofs.RuleAnswers.{ruleResult, rule-fills, rows, zeros, positions}
-use Rattle.nitswolan.specs.Fields.{Answers, planFields, sampleFields, tableFields}
+use Rattle.motion.proofs.RuleAnswers.{rulePositions, zeros, positions, positions-fill, room, third-forward}
+use Rattle.nitswolan.specs.Fields.{Answers, planFields, thirdPlanFields, sampleFields, tableFields}
 use Rattle.nitswolan.specs.Claims.{CallerFacts}
-use Rattle.nitswolan.specs.declared.plan.PlanResult.{PlanResult}
-use Rattle.nitswolan.proofs.CallerTheorems.{samples, caller-facts}
+use Rattle.nitswolan.proofs.StructLaws.{filled-by}
+use Rattle.nitswolan.proofs.PlanLaws.{Reading, fourth, third}
+use Rattle.nitswolan.proofs.CallerTheorems.{caller-by}
 
--- a struct that is filled by an outcome which the promise allows
-filled-by : {O R : Type 0} (fields : O → R) {P : O → Type 0} {o : O} → P o → Answers fields P (fields o)
-filled-by fields {o = o} p = record { outcome = o; promised = p; fields-are = refl }
+-- the facts of the rule's own samples and table
+abbrev FactsOfRule : {R : Type 0} → Reading R → (m : Move) (plan : R) → Type 0
+FactsOfRule p m plan =
+    let x : Motion = p .order m in
+    CallerFacts (x .samples) (p .samples plan) (p .Demand m) (λ k. sampleFields (ruleSample x k)) (tableFields (rulePositions x)) (positions x)
 
--- the outcome of the rule's own table
-abbrev ruleRows : Move → Result ℕ ℕ
-ruleRows m = ruleResult m [] (rows m) (λ k. valuesOf m k .position) (zeros m)
+pub rule-caller-facts : {R : Type 0} (p : Reading R) (m : Move) (plan : R) → p .Promise m plan → p .Accepts m → FactsOfRule p m plan
+rule-caller-facts p m plan h a =
+    let x : Motion = p .order m in
+    let r = p .accepts m plan h .1 a in
+    caller-by p m plan h r (λ k. sampleFields (ruleSample x k)) (λ k l. filled-by sampleFields (rule-samples x k refl)) (zeros x)
+    (positions x) (tableFields (rulePositions x)) (omega (arith, p .samples-are m plan h r, room x)) (filled-by tableFields (positions-fill x))
 
-module _ (m : Move) (h : Accepted m) where
-  abbrev plan : PlanResult
-  plan = planFields (outcomeOf m)
+rule-plans : (m : Move) → Answers planFields (Plans m) (planFields (outcomeOf m))
+rule-plans m = filled-by planFields (record { outcome-is = refl })
 
-  plans : Answers planFields (Plans m) plan
-  plans = filled-by planFields (record { outcome-is = refl })
+rule-plans-third : (m : Move) → Answers thirdPlanFields (PlansThird m) (thirdPlanFields (thirdOutcomeOf m))
+rule-plans-third m = filled-by thirdPlanFields (record { outcome-is = refl })
 
-  not-refused : plan .refusal ≡ 0
-  not-refused = ap (λ (o : Result ℕ Plan). planFields o .refusal) (accepted-outcome m h)
+-- closed instances, forward and backward: the first of document 01's moves, and its mirror; and in the third order
+pub caller-facts-forward : FactsOfRule fourth firstStarred (planFields (outcomeOf firstStarred))
+caller-facts-forward = rule-caller-facts fourth firstStarred _ (rule-plans firstStarred) first-accepted
 
-  fills : FillsPositions m (zeros m) (ruleRows m) (positions m)
-  unfolding FillsPositions
-  fills = rule-fills m [] (rows m) (λ k. valuesOf m k .position) (zeros m)
+pub caller-facts-backward : FactsOfRule fourth (mirrored firstStarred) (planFields (outcomeOf (mirrored firstStarred)))
+caller-facts-backward =
+    rule-caller-facts fourth (mirrored firstStarred) _ (rule-plans (mirrored firstStarred)) (mirror firstStarred .0 first-accepted)
 
-  pub rule-caller-facts : CallerFacts m plan (λ k. sampleFields (ruleSample m k)) (tableFields (ruleRows m)) (positions m)
-  rule-caller-facts =
-      caller-facts m plan plans not-refused (λ k. sampleFields (ruleSample m k)) (λ k l. filled-by sampleFields (rule-samples m k refl))
-      (zeros m) (positions m) (tableFields (ruleRows m)) (omega (arith, samples plans not-refused, length-replicate (rows m) (pos 0)))
-      (filled-by tableFields fills)
-
--- closed instances, forward and backward: the first of document 01's moves, and its mirror
-abbrev FactsOfRule : Move → Type 0
-FactsOfRule m = CallerFacts m (planFields (outcomeOf m)) (λ k. sampleFields (ruleSample m k)) (tableFields (ruleRows m)) (positions m)
-
-pub caller-facts-forward : FactsOfRule firstStarred
-caller-facts-forward = rule-caller-facts firstStarred first-accepted
-
-pub caller-facts-backward : FactsOfRule (mirrored firstStarred)
-caller-facts-backward = rule-caller-facts (mirrored firstStarred) (mirror firstStarred .0 first-accepted)
+pub caller-facts-third : FactsOfRule third firstStarred (thirdPlanFields (thirdOutcomeOf firstStarred))
+caller-facts-third = rule-caller-facts third firstStarred _ (rule-plans-third firstStarred) third-forward

@@ -6,7 +6,9 @@ use Rattle.planner.specs.Intervals.{N}
 use Rattle.planner.specs.Result.{Result, refused, given}
 use Rattle.planner.specs.Outcome.{intervalsIn}
 use Rattle.planner.specs.Axes.{PlansAxes}
+use Rattle.planner.specs.Third.{thirdIntervalsIn, N₃}
 use Rattle.planner.specs.declared.Plan.{Plan}
+use Rattle.planner.specs.declared.ThirdPlan.{ThirdPlan}
 use Rattle.motion.specs.Axes.{restSample, SamplesAxes}
 use Rattle.motion.specs.declared.Sample.{Sample}
 use Rattle.route_sheet.specs.Answer.{sheetOutcome}
@@ -20,6 +22,7 @@ use Rattle.nitswolan.specs.declared.plan.PlanResult.{PlanResult}
 use Rattle.nitswolan.specs.declared.sample.SampleResult.{SampleResult}
 use Rattle.nitswolan.specs.declared.table.TableResult.{TableResult}
 use Rattle.nitswolan.specs.declared.sheet.SheetResult.{SheetResult}
+use Rattle.nitswolan.specs.declared.third.ThirdPlanResult.{ThirdPlanResult}
 
 -- What a C entry promises: its struct r is filled by an outcome that the library's entry promises.
 pub record Answers {O R : Type 0} (fields : O → R) (Promise : O → Type 0) (r : R) : Type 0 where
@@ -40,6 +43,19 @@ planFields (given x) =
       c = x .c;
       e = x .e;
       snap = x .snap;
+      shortfall = x .shortfall;
+    }
+
+abbrev pub thirdPlanFields : Result ℕ ThirdPlan → ThirdPlanResult
+thirdPlanFields (refused number) = record { refusal = number; samples = 0; b = 0; c = 0; e = 0; jerk = 0; shortfall = 0 }
+thirdPlanFields (given x) =
+    record {
+      refusal = 0;
+      samples = N₃ (thirdIntervalsIn x);
+      b = x .b;
+      c = x .c;
+      e = x .e;
+      jerk = x .jerk;
       shortfall = x .shortfall;
     }
 

@@ -5,6 +5,7 @@ mod plan;
 mod sample;
 mod sheet;
 mod table;
+mod third;
 
 use crate::axes::axes_plan_result;
 use crate::axes::axes_sample_result;
@@ -12,6 +13,7 @@ use crate::plan::plan_result;
 use crate::sample::sample_result;
 use crate::sheet::sheet_result;
 use crate::table::table_result;
+use crate::third::third_plan_result;
 pub use axes::Axes;
 pub use axes::AxesPlanResult;
 pub use axes::AxesSampleResult;
@@ -20,16 +22,18 @@ pub use plan::PlanResult;
 use planner::Move;
 use route_sheet::REPORT_BYTES;
 ghost use Rattle.planner.specs.Outcome.{Plans};
+ghost use Rattle.planner.specs.Third.{PlansThird};
 ghost use Rattle.motion.specs.Answer.{machineOf};
 ghost use Rattle.motion.specs.Tables.{FillsForce, FillsPositions, FillsReference};
-ghost use Rattle.motion.specs.Sampling.{Samples};
+ghost use Rattle.motion.specs.Sampling.{Samples, fourthOrder, thirdOrder};
 ghost use Rattle.route_sheet.specs.Answer.{ReadsSheet};
 ghost use Rattle.route_sheet.specs.Report.{Reports};
-ghost use Rattle.nitswolan.specs.Fields.{Answers, planFields, sampleFields, sheetFields, tableFields};
+ghost use Rattle.nitswolan.specs.Fields.{Answers, planFields, sampleFields, sheetFields, tableFields, thirdPlanFields};
 ghost use Rattle.nitswolan.specs.Fields.{PlansSet, SamplesSet, axesPlanFields, axesSampleFields};
 pub use sample::SampleResult;
 pub use sheet::SheetResult;
 pub use table::TableResult;
+pub use third::ThirdPlanResult;
 
 // Plans a move, or names the lowest refusal that applies.
 #[no_mangle]
@@ -51,7 +55,7 @@ pub extern "C" fn nitswolan_plan_axes(axes: Axes) -> AxesPlanResult
 // The values of a move at sample k, from 0 to N.
 #[no_mangle]
 pub extern "C" fn nitswolan_sample_move(m: Move, k: u64) -> SampleResult
-    ensures { λ r. ⌜ Answers sampleFields (Samples m k) r ⌝ }
+    ensures { λ r. ⌜ Answers sampleFields (Samples (fourthOrder m) k) r ⌝ }
 {
     sample_result(motion::sample_move(m, k))
 }
@@ -68,7 +72,7 @@ pub extern "C" fn nitswolan_sample_axes(axes: Axes, k: u64) -> AxesSampleResult
 // Fills a table with the positions of a move at samples 0 to N, for the drive to play.
 #[no_mangle]
 pub extern "C" fn nitswolan_fill_positions(m: Move, table: &mut [i64]) -> TableResult
-    ensures { λ r. ⌜ Answers tableFields (λ o. FillsPositions m (now (table .entry)) o (now (table .exit))) r ⌝ }
+    ensures { λ r. ⌜ Answers tableFields (λ o. FillsPositions (fourthOrder m) (now (table .entry)) o (now (table .exit))) r ⌝ }
 {
     table_result(motion::fill_positions(m, table))
 }
@@ -76,7 +80,7 @@ pub extern "C" fn nitswolan_fill_positions(m: Move, table: &mut [i64]) -> TableR
 // Fills a table with the reference rows of a move at samples 0 to N, for the feedback loop.
 #[no_mangle]
 pub extern "C" fn nitswolan_fill_reference(m: Move, table: &mut [i64]) -> TableResult
-    ensures { λ r. ⌜ Answers tableFields (λ o. FillsReference m (now (table .entry)) o (now (table .exit))) r ⌝ }
+    ensures { λ r. ⌜ Answers tableFields (λ o. FillsReference (fourthOrder m) (now (table .entry)) o (now (table .exit))) r ⌝ }
 {
     table_result(motion::fill_reference(m, table))
 }
@@ -87,6 +91,38 @@ pub extern "C" fn nitswolan_fill_force(m: Move, machine: Machine, table: &mut [f
     ensures { λ r. ⌜ Answers tableFields (λ o. FillsForce m (machineOf machine) (now (table .entry)) o (now (table .exit))) r ⌝ }
 {
     table_result(motion::fill_force(m, machine, table))
+}
+
+// Plans a move in the third order, for drives without a bound on the snap: the move's own is not read.
+#[no_mangle]
+pub extern "C" fn nitswolan_plan_third(m: Move) -> ThirdPlanResult
+    ensures { λ r. ⌜ Answers thirdPlanFields (PlansThird m) r ⌝ }
+{
+    third_plan_result(planner::plan_third(m))
+}
+
+// The values of a move in the third order at sample k, from 0 to N. The snap is 0.
+#[no_mangle]
+pub extern "C" fn nitswolan_sample_third(m: Move, k: u64) -> SampleResult
+    ensures { λ r. ⌜ Answers sampleFields (Samples (thirdOrder m) k) r ⌝ }
+{
+    sample_result(motion::sample_third(m, k))
+}
+
+// Fills a table with the positions of a move in the third order at samples 0 to N.
+#[no_mangle]
+pub extern "C" fn nitswolan_fill_positions_third(m: Move, table: &mut [i64]) -> TableResult
+    ensures { λ r. ⌜ Answers tableFields (λ o. FillsPositions (thirdOrder m) (now (table .entry)) o (now (table .exit))) r ⌝ }
+{
+    table_result(motion::fill_positions_third(m, table))
+}
+
+// Fills a table with the reference rows of a move in the third order at samples 0 to N.
+#[no_mangle]
+pub extern "C" fn nitswolan_fill_reference_third(m: Move, table: &mut [i64]) -> TableResult
+    ensures { λ r. ⌜ Answers tableFields (λ o. FillsReference (thirdOrder m) (now (table .entry)) o (now (table .exit))) r ⌝ }
+{
+    table_result(motion::fill_reference_third(m, table))
 }
 
 // Reads the text of a sheet, or names its refusal.

@@ -3,10 +3,9 @@ use planner::Plan;
 use planner::PlanAnswer;
 ghost use mathlib.Core.Path.{_≡_};
 ghost use Prim.Native.Nat.{_≤_};
-ghost use Rattle.planner.specs.Outcome.{outcome, intervalsIn, mostSamples};
-ghost use Rattle.planner.specs.Intervals.{N};
+ghost use Rattle.planner.specs.Outcome.{outcome, mostSamples};
 ghost use Rattle.nitswolan.specs.Fields.{planFields};
-ghost use Rattle.nitswolan.specs.Inner.{SamplesFit};
+ghost use Rattle.nitswolan.specs.Inner.{planSamples, SamplesFit};
 
 // A plan: N, the intervals a, b, c and e, the size D of the snap, and the shortfall.
 #[repr(C)]
@@ -23,14 +22,14 @@ pub struct PlanResult {
 
 // N, the samples that the move takes.
 fn samples_of(plan: Plan) -> u64
-    requires { ⌜ N (intervalsIn plan) ≤ mostSamples ⌝ }
-    ensures { λ r. ⌜ r ≡ N (intervalsIn plan) ⌝ }
+    requires { ⌜ planSamples plan ≤ mostSamples ⌝ }
+    ensures { λ r. ⌜ r ≡ planSamples plan ⌝ }
 {
     plan.a + plan.b + plan.c + plan.e
 }
 
 pub(crate) fn plan_result(answer: PlanAnswer) -> PlanResult
-    requires { ⌜ SamplesFit (outcome answer) ⌝ }
+    requires { ⌜ SamplesFit planSamples (outcome answer) ⌝ }
     ensures { λ r. ⌜ r ≡ planFields (outcome answer) ⌝ }
 {
     match answer {

@@ -16,7 +16,7 @@ use Rattle.planner.specs.Inner.AxisAnswers.{undividedAxis, axisResult}
 use Rattle.planner.specs.declared.Move.{Move}
 use Rattle.planner.specs.declared.Plan.{Plan}
 use Rattle.planner.proofs.RefusalLaws.{Passes, passed, passed-same, all-pass, same-refusal, bounds-in-range, bounds-pass}
-use Rattle.planner.proofs.UndividedChecks.{ownBounds, boundsOf}
+use Rattle.planner.proofs.FiguresChecks.{ownBounds, boundsOf}
 use Rattle.planner.proofs.Acceptance.{passed-accepted, accepted-passes}
 
 -- one of two, by a test

@@ -3,10 +3,12 @@ use mathlib.Core.Path.{_≡_}
 use Prim.Native.Nat.{ℕ, _+_, _-_, _*_, _≤_, min}
 use native.Mathlib.Nat.{le-trans, le-of-eq, mul-pos, mul-assoc, le-of-mul-le-mul-right, div-mul-le-self, le-max-left}
 use native.Mathlib.Omega.{arith}
-use Rattle.planner.specs.Intervals.{interval-a, interval-b, interval-c, interval-e, a, b, c, e, intervalsBy, Intervals, p, q, r, s, N, P, D}
+use Rattle.planner.specs.Least.{least}
+use Rattle.planner.specs.Intervals.{interval-a, interval-b, a, b, intervalsBy, Intervals, p, q, r, s, N, P, D}
 use Rattle.planner.specs.Inner.Facts.{Ordered, KeepsBounds}
 use Rattle.planner.specs.declared.Move.{Move}
 use Rattle.planner.proofs.LeastLaws.{least-positive}
+use Rattle.planner.proofs.CarriedLaws.{ab-c, abc-e}
 
 min-positive : {x y : ℕ} → 1 ≤ x → 1 ≤ y → 1 ≤ min x y
 min-positive h k = omega arith
@@ -16,15 +18,29 @@ unfolding interval-a
 one-interval-a W V₀ A₀ J₀ S₀ =
     min-positive (least-positive _ _) (min-positive (least-positive _ _) (min-positive (least-positive _ _) (least-positive _ _)))
 
+-- the smallest of the searches for b
+pub one-smallest-b : (W V₀ A₀ : ℕ) (f g h : ℕ → ℕ) → 1 ≤ min (least W f) (min (least V₀ g) (least A₀ h))
+one-smallest-b W V₀ A₀ f g h = min-positive (least-positive _ _) (min-positive (least-positive _ _) (least-positive _ _))
+
 pub ordered : (W V₀ A₀ J₀ S₀ : ℕ) → Ordered (intervalsBy W V₀ A₀ J₀ S₀)
-unfolding a b c e interval-b interval-c interval-e
+unfolding a b interval-b
 ordered W V₀ A₀ J₀ S₀ =
-    record {
-      one-a = one-interval-a W V₀ A₀ J₀ S₀;
-      a-b = le-max-left _ _;
-      ab-c = le-max-left _ _;
-      abc-e = le-max-left _ _;
-    }
+    record { one-a = one-interval-a W V₀ A₀ J₀ S₀; a-b = le-max-left _ _; ab-c = ab-c _ _ _ _ _ _; abc-e = abc-e _ _ _ _ _ _ }
+
+-- Each bound from the one after it, for a jerk of size z: the last interval covers W, and each interval covers the bound that was carried
+-- on.
+module _ (W z b c e J₁ A₁ V₁ : ℕ)
+    (one-b : 1 ≤ b) (one-c : 1 ≤ c) (one-e : 1 ≤ e)
+    (covers-W : W ≤ V₁ * e) (covers-V : V₁ ≤ A₁ * c) (covers-A : A₁ ≤ J₁ * b)
+    (way : z * b * c * e ≤ W) where
+  pub velocity-kept : z * b * c ≤ V₁
+  velocity-kept = le-of-mul-le-mul-right (le-trans way covers-W) one-e
+
+  pub acceleration-kept : z * b ≤ A₁
+  acceleration-kept = le-of-mul-le-mul-right (le-trans velocity-kept covers-V) one-c
+
+  pub jerk-kept : z ≤ J₁
+  jerk-kept = le-of-mul-le-mul-right (le-trans acceleration-kept covers-A) one-b
 
 -- what is left of an interval after those before it
 left-1 : (a b : ℕ) → a ≤ b → b ≡ a + (b - a)
@@ -58,7 +74,7 @@ module _ {t : Intervals} (o : Ordered t) where
   pub product-positive : 1 ≤ P t
   product-positive = mul-pos (mul-pos (mul-pos (o .one-a) one-b) one-c) one-e
 
-  -- each bound from the one after it: the last interval covers W, and each interval covers the bound that was carried on
+  -- the snap of a plan whose last interval covers W
   module _ (W : ℕ) (m : Move) (J₁ A₁ V₁ : ℕ)
       (covers-W : W ≤ V₁ * t .e)
       (covers-V : V₁ ≤ A₁ * t .c)
@@ -72,19 +88,16 @@ module _ {t : Intervals} (o : Ordered t) where
         rw (mul-assoc (snap * t .a * t .b) (t .c) (t .e), mul-assoc (snap * t .a) (t .b) (t .c * t .e), mul-assoc snap (t .a) (t .b * (t .c * t .e)))
         (rw (mul-assoc (t .a * t .b) (t .c) (t .e), mul-assoc (t .a) (t .b) (t .c * t .e)))
 
-    velocity : snap * t .a * t .b * t .c ≤ V₁
+    way : snap * t .a * t .b * t .c * t .e ≤ W
     unfolding snap
-    velocity = le-of-mul-le-mul-right (le-trans (le-of-eq regroup) (le-trans (div-mul-le-self W (P t)) covers-W)) one-e
-
-    acceleration : snap * t .a * t .b ≤ A₁
-    acceleration = le-of-mul-le-mul-right (le-trans velocity covers-V) one-c
-
-    jerk : snap * t .a ≤ J₁
-    jerk = le-of-mul-le-mul-right (le-trans acceleration covers-A) one-b
+    way = le-trans (le-of-eq regroup) (div-mul-le-self W (P t))
 
     pub keeps-bounds : V₁ ≤ m .velocity → A₁ ≤ m .acceleration → J₁ ≤ m .jerk → KeepsBounds m t (D t W)
     unfolding snap
     keeps-bounds hv ha hj =
+        let jerk = jerk-kept _ _ _ _ _ _ _ _ one-b one-c one-e covers-W covers-V covers-A way in
+        let acceleration = acceleration-kept _ _ _ _ _ _ _ _ one-b one-c one-e covers-W covers-V covers-A way in
+        let velocity = velocity-kept _ _ _ _ _ _ _ _ one-b one-c one-e covers-W covers-V covers-A way in
         record {
           snap = le-of-mul-le-mul-right (le-trans jerk covers-J) (o .one-a);
           jerk = le-trans jerk hj;

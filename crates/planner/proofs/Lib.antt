@@ -15,17 +15,21 @@ pub mod RuleRefusals
 pub mod EachLaws
 pub mod PaddedLaws
 -- What the rules come to: laws of the intervals, and the theorems.
+pub mod CarriedLaws
 pub mod BoundLaws
 pub mod ProductBound
-pub mod CarriedLaws
 pub mod Acceptance
 pub mod Mirror
 pub mod PlannedFacts
-pub mod UndividedChecks
+pub mod FiguresChecks
 pub mod UndividedAnswers
-pub mod TenLeastNumbers
 pub mod StarredMoves
 pub mod AnswerLaws
+-- Third-order plans.
+pub mod ThirdLaws
+pub mod ThirdTheorems
+-- The searches of both orders.
+pub mod LeastNumbers
 -- Sets of axes.
 pub mod AxisLaws
 pub mod AxesLaws

@@ -1,10 +1,10 @@
 -- From "planned" to all that holds of a plan: what other crates use in place of the rules' own text.
 use mathlib.Core.Path.{_≡_, refl, subst, sym, _∙_}
 use Prim.Native.Nat.{ℕ, zero, suc, _+_, _-_, _*_, _/_, _≤_, _<_}
-use native.Mathlib.Nat.{le-refl, le-trans, mul-le-mul-left, min-le-left, div-mul-le-self, div-add-mod', mod-lt}
+use native.Mathlib.Nat.{le-refl, le-trans, mul-le-mul-left, min-le-left, min-le-right, div-mul-le-self, div-add-mod', mod-lt}
 use native.Mathlib.Omega.{arith}
 use Rattle.planner.specs.Quantities.{distance}
-use Rattle.planner.specs.Intervals.{Intervals, J₁, A₁, V₁, N, P, D}
+use Rattle.planner.specs.Intervals.{Intervals, a, J₁, b, A₁, V₁, fromB, N, P, D}
 use Rattle.planner.specs.Result.{given}
 use Rattle.planner.specs.Outcome.{distanceOf, intervalsOf, intervalsIn, samplesOf, mostSamples, planOf, Plans, outcome}
 use Rattle.planner.specs.Claims.{InRange, Accepted, ofMove, IntervalClaim}
@@ -15,16 +15,16 @@ use Rattle.planner.specs.declared.PlanAnswer.the-variants.{Planned}
 use Rattle.planner.specs.Inner.Facts.{Ordered, KeepsBounds, PlanFacts}
 use Rattle.planner.proofs.ResultLaws.{same-given}
 use Rattle.planner.proofs.Acceptance.{acceptance, accepted-outcome}
-use Rattle.planner.proofs.BoundLaws.{ordered, durations, product-positive, keeps-bounds}
+use Rattle.planner.proofs.BoundLaws.{ordered, durations, one-b, product-positive, keeps-bounds}
 use Rattle.planner.proofs.ProductBound.{product-bound}
-use Rattle.planner.proofs.CarriedLaws.{FromOne, carried-from-one, covers-J, covers-A, covers-V, covers-W}
+use Rattle.planner.proofs.CarriedLaws.{one-min, one-A₁, one-V₁, covers-A, covers-V, covers-W}
 
 -- the division with its remainder
 module _ (W d : ℕ) where
-  whole : W / d * d + (W - W / d * d) ≡ W
+  pub whole : W / d * d + (W - W / d * d) ≡ W
   whole = omega (arith, div-mul-le-self W d)
 
-  below : 1 ≤ d → W - W / d * d < d
+  pub below : 1 ≤ d → W - W / d * d < d
   below h = omega (arith, div-add-mod' W d, mod-lt W h)
 
 module _ (m : Move) where
@@ -32,10 +32,21 @@ module _ (m : Move) where
   unfolding intervalsOf
   rule-ordered = ordered (distanceOf m) (m .velocity) (m .acceleration) (m .jerk) (m .snap)
 
-  rule-carried : InRange m → FromOne (ofMove m J₁) (ofMove m A₁) (ofMove m V₁)
-  rule-carried h =
-      let b = h .bounds in
-      carried-from-one _ _ _ _ _ (b .velocity .at-least) (b .acceleration .at-least) (b .jerk .at-least) (b .snap .at-least)
+  rule-J₁ : InRange m → 1 ≤ ofMove m J₁
+  unfolding J₁ intervalsOf
+  rule-J₁ h = one-min (h .bounds .jerk .at-least) (h .bounds .snap .at-least) (rule-ordered .one-a)
+
+  -- what a rule from b on gives
+  abbrev pub later : ((W V₀ A₀ J₁ a b : ℕ) → ℕ) → ℕ
+  later rule = ofMove m (λ W V₀ A₀ J₀ S₀. fromB W V₀ A₀ J₀ S₀ rule)
+
+  rule-A₁ : InRange m → 1 ≤ later A₁
+  unfolding intervalsOf
+  rule-A₁ h = one-A₁ _ _ _ _ _ _ (h .bounds .acceleration .at-least) (rule-J₁ h) (one-b rule-ordered)
+
+  rule-V₁ : InRange m → 1 ≤ later V₁
+  unfolding intervalsOf
+  rule-V₁ h = one-V₁ _ _ _ _ _ _ (h .bounds .velocity .at-least) (h .bounds .acceleration .at-least) (rule-J₁ h) (one-b rule-ordered)
 
   -- the rule's intervals with another e
   abbrev pub withLast : ℕ → Intervals
@@ -54,10 +65,11 @@ module _ (m : Move) where
     last-bounds : InRange m → KeepsBounds m (withLast e) (D (withLast e) (distanceOf m))
     unfolding intervalsOf J₁ A₁ V₁
     last-bounds h =
-        keeps-bounds last-ordered (distanceOf m) m _ _ _
-        (le-trans (covers-W _ _ _ _ _ (rule-carried h .one-V₁)) (mul-le-mul-left _ longer))
-        (covers-V _ _ _ _ _) (covers-A _ _ _ _ _) (covers-J _ _ _ _ _)
-        (min-le-left _ _) (min-le-left _ _) (min-le-left _ _)
+        keeps-bounds last-ordered (distanceOf m) m (ofMove m J₁) (later A₁) (later V₁)
+        (le-trans (covers-W _ _ _ _ _ (ofMove m b) (rule-V₁ h)) (mul-le-mul-left (later V₁) longer))
+        (covers-V (distanceOf m) (m .velocity) (m .acceleration) (ofMove m J₁) (ofMove m a) (ofMove m b))
+        (covers-A (distanceOf m) (m .velocity) (m .acceleration) (ofMove m J₁) (ofMove m a) (ofMove m b))
+        (min-le-right _ _) (min-le-left _ _) (min-le-left _ _) (min-le-left _ _)
 
     pub last-facts : Accepted m → N (withLast e) ≤ mostSamples → PlanFacts m (withLast e) (planOf (distanceOf m) (withLast e))
     last-facts h l =
@@ -81,9 +93,9 @@ interval-claim m =
     record {
       durations = durations (rule-ordered m);
       product = product-bound (rule-ordered m);
-      one-J₁ = λ h. rule-carried m h .one-J₁;
-      one-A₁ = λ h. rule-carried m h .one-A₁;
-      one-V₁ = λ h. rule-carried m h .one-V₁;
+      one-J₁ = rule-J₁ m;
+      one-A₁ = rule-A₁ m;
+      one-V₁ = rule-V₁ m;
     }
 
 module _ {m : Move} where

@@ -8,7 +8,7 @@ use Rattle.planner.specs.Inner.Facts.{Ordered}
 square : (x d : ℕ) → 4 * (x * (x + d)) ≤ (x + (x + d)) * (x + (x + d))
 square x d = simp (mul-add, add-mul) (omega (arith, mul-comm x d))
 
-four-products : {x y : ℕ} → x ≤ y → 4 * (x * y) ≤ (x + y) * (x + y)
+pub four-products : {x y : ℕ} → x ≤ y → 4 * (x * y) ≤ (x + y) * (x + y)
 four-products {x} h = let (d, q) = le-dest h in rw (← q) (square x d)
 
 -- 32 times the first three of four numbers

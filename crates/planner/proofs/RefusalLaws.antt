@@ -73,6 +73,14 @@ same-refusal [] x o n h = absurd (clash cc)
 same-refusal (check m true ∷ xs) x o n h = let same : m ≡ n = cc in ap refused same
 same-refusal (check m false ∷ xs) x o n h = same-refusal xs x o n h
 
+-- Checks that are made in two parts: a refusal of the first is the refusal of both, and where the first gives something the second decides.
+module _ {R A B : Type 0} (xs ys : List (Check R)) (x : A) (o : Result R B) where
+  pub refused-on : (n : R) → refused n ≡ firstRefusal xs (given x) → refused n ≡ firstRefusal (xs ++ ys) o
+  refused-on n h = sym (checks-joined xs ys o ∙ same-refusal xs x (firstRefusal ys o) n (sym h))
+
+  pub passed-on : (y : A) → given y ≡ firstRefusal xs (given x) → firstRefusal ys o ≡ firstRefusal (xs ++ ys) o
+  passed-on y h = sym (checks-joined xs ys o ∙ all-pass xs (firstRefusal ys o) (passed xs x y (sym h)))
+
 -- neither 0 nor above the most
 or-false : (x y : Bool) → (x || y) ≡ false → (x ≡ false) × (y ≡ false)
 or-false true y h = absurd (true≢false h)

@@ -1,11 +1,13 @@
--- The rule refuses with no number above 7, and with none below 1.
+-- The rule refuses with no number above 7, and with none below 1; and in the third order not with 6.
 use mathlib.Core.Bool.{true, false}
 use mathlib.Core.List.{List, [], _∷_}
-use mathlib.Core.Path.{_≡_, subst}
-use Prim.Native.Nat.{ℕ, _≤_}
+use mathlib.Core.Path.{_≡_, sym, subst}
+use Prim.Native.Nat.{ℕ, _+_, _-_, _≤_}
 use native.Mathlib.Omega.{arith}
 use Rattle.planner.specs.Result.{Each, refused, given, Check, check, firstRefusal}
 use Rattle.planner.specs.Outcome.{checks, distanceOf, intervalsOf, planOf, outcomeOf}
+use Rattle.planner.specs.Third.{thirdIntervalsOf, thirdPlanOf, thirdChecks, thirdOutcomeOf}
+use Rattle.planner.specs.ThirdClaims.{NeverSixClaim}
 use Rattle.planner.specs.declared.Move.{Move}
 use Rattle.planner.proofs.Clash.{clash}
 use Rattle.planner.proofs.ResultLaws.{same-refused}
@@ -28,3 +30,17 @@ Between least most n = (least ≤ n) × (n ≤ most)
 pub refused-most : (m : Move) (n : ℕ) → outcomeOf m ≡ refused n → Between 1 7 n
 unfolding outcomeOf
 refused-most m = refusal-has (Between 1 7) (checks m) (planOf (distanceOf m) (intervalsOf m)) (omega arith)
+
+-- from 1 up, and not 6
+abbrev pub NotSix : ℕ → Type 0
+NotSix n = (1 ≤ n) × (1 ≤ n - 6 + (6 - n))
+
+pub third-never : (m : Move) → Each (Has NotSix) (thirdChecks m)
+third-never m = omega arith
+
+pub third-not-six : (m : Move) (n : ℕ) → thirdOutcomeOf m ≡ refused n → NotSix n
+unfolding thirdOutcomeOf
+third-not-six m = refusal-has NotSix (thirdChecks m) (thirdPlanOf (distanceOf m) (thirdIntervalsOf m)) (third-never m)
+
+pub never-six : NeverSixClaim
+never-six m h = omega (arith, third-not-six m 6 (sym (h .outcome-is)) .1)

@@ -4,7 +4,7 @@ use mathlib.Core.Path.{_≡_}
 use Prim.Native.Nat.{ℕ, _+_, _*_, _^_, _≤_}
 use lib.IntN.{natAbs, negℤ}
 use Rattle.planner.specs.Least.{least, IsLeast}
-use Rattle.planner.specs.Intervals.{p, q, r, s, N, P, J₁, A₁, V₁}
+use Rattle.planner.specs.Intervals.{p, q, r, s, N, P, J₁, A₁, V₁, fromB}
 use Rattle.planner.specs.Result.{Result, refused, given}
 use Rattle.planner.specs.Outcome.{mostSamples, mostCounts, mostBound, distanceOf, intervalsOf, samplesOf, Plans, outcome}
 use Rattle.planner.specs.declared.Move.{Move}
@@ -75,5 +75,5 @@ module _ (m : Move) where
     pub durations : N (intervalsOf m) ≡ 8 * p (intervalsOf m) + 4 * q (intervalsOf m) + 2 * r (intervalsOf m) + s (intervalsOf m)
     pub product : N (intervalsOf m) ≤ mostSamples → P (intervalsOf m) ≤ 2 ^ 39
     pub one-J₁ : InRange m → 1 ≤ ofMove J₁
-    pub one-A₁ : InRange m → 1 ≤ ofMove A₁
-    pub one-V₁ : InRange m → 1 ≤ ofMove V₁
+    pub one-A₁ : InRange m → 1 ≤ ofMove (λ W V₀ A₀ J₀ S₀. fromB W V₀ A₀ J₀ S₀ A₁)
+    pub one-V₁ : InRange m → 1 ≤ ofMove (λ W V₀ A₀ J₀ S₀. fromB W V₀ A₀ J₀ S₀ V₁)

@@ -4,4 +4,6 @@ pub mod Facts
 pub mod Search
 pub mod Capped
 pub mod Undivided
+pub mod ThirdWithin
+pub mod ThirdFacts
 pub mod AxisAnswers

@@ -1,5 +1,5 @@
--- The rules of document 01 in its order, and of document 02, request 1; then what the theorems say of them; last what only proofs and the
--- contracts of private functions cite.
+-- The rules of document 01 in its order, and of document 02, requests 1 and 3; then what the theorems say of them; last what only proofs
+-- and the contracts of private functions cite.
 pub mod Quantities
 pub mod Least
 pub mod Intervals
@@ -7,7 +7,9 @@ pub mod Result
 pub mod Outcome
 pub mod Order
 pub mod Axes
+pub mod Third
 pub mod Claims
 pub mod AxesClaims
+pub mod ThirdClaims
 pub mod Starred
 pub mod Inner

@@ -4,7 +4,7 @@ use mathlib.Core.List.{List, [], _∷_, _++_}
 use mathlib.Core.Path.{_≡_}
 use Prim.Native.Nat.{ℕ, _^_}
 use lib.Dec.{eqb, ltb}
-use lib.IntN.{natAbs}
+use lib.IntN.{ℤ, natAbs}
 use Rattle.planner.specs.Quantities.{distance}
 use Rattle.planner.specs.Intervals.{Intervals, intervalsBy, N, D, shortfall}
 use Rattle.planner.specs.Result.{Result, refused, given, Check, check, firstRefusal}
@@ -29,10 +29,15 @@ mostBound = 2 ^ 50
 abbrev pub outOfRange : ℕ → Bool
 outOfRange x = eqb x 0 || ltb mostBound x
 
--- Refusals 3 to 6.
+-- Refusals 1 and 2; 3 to 5, and 3 to 6.
+abbrev pub displacementChecks : (X : ℤ) → List (Check ℕ)
+displacementChecks X = check 1 (eqb (natAbs X) 0) ∷ check 2 (ltb mostCounts (natAbs X)) ∷ []
+
+abbrev pub jerkChecks : (V₀ A₀ J₀ : ℕ) → List (Check ℕ)
+jerkChecks V₀ A₀ J₀ = check 3 (outOfRange V₀) ∷ check 4 (outOfRange A₀) ∷ check 5 (outOfRange J₀) ∷ []
+
 abbrev pub boundChecks : (V₀ A₀ J₀ S₀ : ℕ) → List (Check ℕ)
-boundChecks V₀ A₀ J₀ S₀ =
-    check 3 (outOfRange V₀) ∷ check 4 (outOfRange A₀) ∷ check 5 (outOfRange J₀) ∷ check 6 (outOfRange S₀) ∷ []
+boundChecks V₀ A₀ J₀ S₀ = jerkChecks V₀ A₀ J₀ ++ (check 6 (outOfRange S₀) ∷ [])
 
 -- The plan of four intervals for the distance W; and the intervals of a plan.
 abbrev pub planOf : (W : ℕ) (t : Intervals) → Plan
@@ -55,10 +60,8 @@ module _ (m : Move) where
   -- Refusals 1 to 7.
   abbrev pub checks : List (Check ℕ)
   checks =
-      check 1 (eqb (natAbs (m .displacement)) 0)
-      ∷ check 2 (ltb mostCounts (natAbs (m .displacement)))
-      ∷ boundChecks (m .velocity) (m .acceleration) (m .jerk) (m .snap)
-      ++ (check 7 (ltb mostSamples samplesOf) ∷ [])
+      displacementChecks (m .displacement)
+      ++ (boundChecks (m .velocity) (m .acceleration) (m .jerk) (m .snap) ++ (check 7 (ltb mostSamples samplesOf) ∷ []))
 
   unfoldable pub outcomeOf : Result ℕ Plan
   outcomeOf = firstRefusal checks (given (planOf distanceOf intervalsOf))

@@ -14,20 +14,23 @@ pub(crate) fn samples_in(x: Plan) -> u64
     x.a + x.b + x.c + x.e
 }
 
-struct Division {
-    pub snap: u64,
+pub(crate) struct Division {
+    pub quotient: u64,
     pub shortfall: u64,
 }
 
-// D, the size of the snap, is W over P rounded down, so that neither a bound nor the end is passed. The
-// shortfall is what that leaves of W.
-fn divide(w: u64, p: u64) -> Division
+// D, the size of the snap (in the third order of the jerk), is W over P rounded down, so that neither a bound nor the end is passed.
+// The shortfall is what that leaves of W.
+pub(crate) fn divide(w: u64, p: u64) -> Division
     requires { ⌜ 1 ≤ p ⌝ }
-    ensures { λ r. ⌜ (r .snap ≡ w / p) × (r .shortfall ≡ w - w / p * p) ⌝ }
+    ensures { λ r. ⌜ (r .quotient ≡ w / p) × (r .shortfall ≡ w - w / p * p) ⌝ }
 {
-    let snap = w / p;
+    let quotient = w / p;
     let shortfall = w % p;
-    Division { snap, shortfall }
+    Division {
+        quotient,
+        shortfall,
+    }
 }
 
 // The plan of these intervals, of which all of W is still short.
@@ -45,7 +48,7 @@ pub(crate) fn divided(x: Plan) -> Plan
         b,
         c,
         e,
-        snap: d.snap,
+        snap: d.quotient,
         shortfall: d.shortfall,
     }
 }

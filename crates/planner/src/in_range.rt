@@ -2,22 +2,17 @@
 use crate::Plan;
 use crate::PlanAnswer;
 use crate::Refusal;
-use crate::UNITS_PER_COUNT;
-use crate::bounds::BoundsAnswer;
-use crate::bounds::check_bounds;
 use crate::division::samples_in;
+use crate::figures::FiguresAnswer;
+use crate::figures::check_figures;
 use crate::intervals::find_intervals;
-use crate::size::magnitude;
 ghost use mathlib.Core.Path.{_≡_};
 ghost use Rattle.planner.specs.Outcome.{outcome};
 ghost use Rattle.planner.specs.Inner.Capped.{Figures};
 ghost use Rattle.planner.specs.Inner.Undivided.{moveOf, undividedResult, undividedWithin};
 
-// The farthest displacement, either way.
-const MOST_COUNTS: u64 = 1_048_576;
-
 // The most samples that a move may take.
-const MOST_SAMPLES: u64 = 4096;
+pub(crate) const MOST_SAMPLES: u64 = 4096;
 
 // The intervals of a move whose figures are in range, with all of W still short; or refusal 7.
 fn undivided_in_range(w: u64, v: u64, acc: u64, j: u64, s: u64) -> PlanAnswer
@@ -39,21 +34,13 @@ fn undivided_in_range(w: u64, v: u64, acc: u64, j: u64, s: u64) -> PlanAnswer
     PlanAnswer::Planned(x)
 }
 
-// The same of any move, or the lowest refusal that applies. The move's numbers come one by one: as a struct they would be
-// copied at each call.
+// The same of any move, or the lowest refusal that applies.
 pub(crate) fn undivided_plan(x: i64, v: u64, acc: u64, j: u64, s: u64) -> PlanAnswer
     ensures { λ r. ⌜ outcome r ≡ undividedResult (moveOf x v acc j s) ⌝ }
 {
-    let size = magnitude(x);
-    if size == 0 {
-        return PlanAnswer::Refused(Refusal::NoDisplacement);
-    }
-    if MOST_COUNTS < size {
-        return PlanAnswer::Refused(Refusal::DisplacementRange);
-    }
-    let bounds = check_bounds(v, acc, j, s);
-    match bounds {
-        BoundsAnswer::Refused(refusal) => PlanAnswer::Refused(refusal),
-        BoundsAnswer::InRange => undivided_in_range(UNITS_PER_COUNT * size, v, acc, j, s),
+    let figures = check_figures(x, v, acc, j, s);
+    match figures {
+        FiguresAnswer::Refused(refusal) => PlanAnswer::Refused(refusal),
+        FiguresAnswer::InRange(distance) => undivided_in_range(distance, v, acc, j, s),
     }
 }

@@ -1,11 +1,11 @@
-// The four intervals of a move in range. An interval above 4,096 may come out smaller than the rule's,
+// The intervals of a move in range. An interval above 4,096 may come out smaller than the rule's,
 // but never below 4,097: such a move is refused either way.
 use crate::search::least_interval;
 ghost use mathlib.Core.Path.{_≡_};
 ghost use Prim.Native.Nat.{_^_, _≤_, max};
 ghost use Rattle.planner.specs.Intervals.{interval-a, interval-b, interval-c, interval-e};
 ghost use Rattle.planner.specs.Claims.{BoundInRange};
-ghost use Rattle.planner.specs.Inner.Capped.{Agrees, Carried, Figures, IntervalsAgree, found};
+ghost use Rattle.planner.specs.Inner.Capped.{Agrees, Carried, Figures, LaterAgree, IntervalsAgree, found};
 
 // A plan has at most 4,096 samples, so a search need tell no numbers from here on apart.
 const CAP: u64 = 4097;
@@ -45,16 +45,17 @@ fn interval_a(w: u64, v: u64, acc: u64, j: u64, s: u64) -> u64
 }
 
 fn interval_b(w: u64, v: u64, acc: u64, j1: u64, a: u64) -> u64
-    requires { ⌜ (w ≤ 2 ^ 60) × BoundInRange v × BoundInRange acc × BoundInRange j1 × (1 ≤ a) × (a ≤ 4097) ⌝ }
+    requires { ⌜ (w ≤ 2 ^ 60) × BoundInRange v × BoundInRange acc × BoundInRange j1 × (a ≤ 4097) ⌝ }
     ensures { λ r. ⌜ Agrees 4097 4097 r (interval-b w v acc j1 a) ⌝ }
 {
-    let by_acceleration = least_interval(j1, a, 0, acc, a, CAP);
-    let by_velocity = least_interval(j1, a, 1, v, a, by_acceleration);
-    least_interval(2 * j1, a, 2, w, a, by_velocity)
+    let lo = larger(1, a);
+    let by_acceleration = least_interval(j1, a, 0, acc, lo, CAP);
+    let by_velocity = least_interval(j1, a, 1, v, lo, by_acceleration);
+    least_interval(2 * j1, a, 2, w, lo, by_velocity)
 }
 
 fn interval_c(w: u64, v: u64, a1: u64, a: u64, b: u64) -> u64
-    requires { ⌜ (w ≤ 2 ^ 60) × BoundInRange v × BoundInRange a1 × (1 ≤ a) × (a ≤ 4097) × (b ≤ 4097) ⌝ }
+    requires { ⌜ (w ≤ 2 ^ 60) × BoundInRange v × BoundInRange a1 × (a ≤ 4097) × (1 ≤ b) × (b ≤ 4097) ⌝ }
     ensures { λ r. ⌜ Agrees 4097 8194 r (interval-c w v a1 a b) ⌝ }
 {
     let ab = a + b;
@@ -63,11 +64,24 @@ fn interval_c(w: u64, v: u64, a1: u64, a: u64, b: u64) -> u64
 }
 
 fn interval_e(w: u64, v1: u64, a: u64, b: u64, c: u64) -> u64
-    requires { ⌜ (w ≤ 2 ^ 60) × BoundInRange v1 × (1 ≤ a) × (a ≤ 4097) × (b ≤ 4097) × (c ≤ 8194) ⌝ }
+    requires { ⌜ (w ≤ 2 ^ 60) × BoundInRange v1 × (a ≤ 4097) × (1 ≤ b) × (b ≤ 4097) × (c ≤ 8194) ⌝ }
     ensures { λ r. ⌜ Agrees 4097 16388 r (interval-e w v1 a b c) ⌝ }
 {
     let abc = a + b + c;
     least_interval(v1, 0, 0, w, abc, larger(CAP, abc))
+}
+
+// From b on. The third order has none before: a is 0 there, and J1 is J.
+pub(crate) fn later_intervals(w: u64, v: u64, acc: u64, j1: u64, a: u64) -> Intervals
+    requires { ⌜ (w ≤ 2 ^ 60) × BoundInRange v × BoundInRange acc × BoundInRange j1 × (a ≤ 4097) ⌝ }
+    ensures { λ r. ⌜ LaterAgree 4097 w v acc j1 a (found r) ⌝ }
+{
+    let b = interval_b(w, v, acc, j1, a);
+    let a1 = carried(acc, j1, b);
+    let c = interval_c(w, v, a1, a, b);
+    let v1 = carried(v, a1, c);
+    let e = interval_e(w, v1, a, b, c);
+    Intervals { a, b, c, e }
 }
 
 pub(crate) fn find_intervals(w: u64, v: u64, acc: u64, j: u64, s: u64) -> Intervals
@@ -75,11 +89,5 @@ pub(crate) fn find_intervals(w: u64, v: u64, acc: u64, j: u64, s: u64) -> Interv
     ensures { λ r. ⌜ IntervalsAgree 4097 w v acc j s (found r) ⌝ }
 {
     let a = interval_a(w, v, acc, j, s);
-    let j1 = carried(j, s, a);
-    let b = interval_b(w, v, acc, j1, a);
-    let a1 = carried(acc, j1, b);
-    let c = interval_c(w, v, a1, a, b);
-    let v1 = carried(v, a1, c);
-    let e = interval_e(w, v1, a, b, c);
-    Intervals { a, b, c, e }
+    later_intervals(w, v, acc, carried(j, s, a), a)
 }

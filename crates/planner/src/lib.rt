@@ -1,21 +1,29 @@
-// Plans one move of the carriage, or a set of axes: the four intervals, the snap and the shortfall, or the refusal.
+// Plans one move of the carriage, in the fourth or the third order, or a set of axes: the intervals, the snap or the jerk, and the
+// shortfall; or the refusal.
 mod axes;
 mod bounds;
 mod division;
+mod figures;
 mod in_range;
 mod intervals;
 mod search;
 mod size;
+mod third;
 
 use crate::axes::each::find_each;
 use crate::axes::raise::raise_each;
 use crate::axes::rest::all_rest;
 use crate::division::divided;
+use crate::figures::FiguresAnswer;
+use crate::figures::check_figures;
 use crate::in_range::undivided_plan;
+use crate::third::UNREAD;
+use crate::third::third_in_range;
 pub use size::magnitude;
 ghost use mathlib.Core.Path.{_≡_};
 ghost use lib.ListN.{replicate};
 ghost use Rattle.planner.specs.Outcome.{Plans, number, outcome};
+ghost use Rattle.planner.specs.Third.{PlansThird, thirdOutcome};
 ghost use Rattle.planner.specs.Axes.{PlansAxes, axesOutcome, mostAxes, restPlan};
 
 // Sub-count units in a count: the paper's G, in grains.
@@ -68,8 +76,23 @@ pub enum Refusal {
     AxisCount,
 }
 
+// A third-order plan: the intervals b, c and e in samples, the size of the jerk, and the shortfall.
+#[repr(C)]
+pub struct ThirdPlan {
+    pub b: u64,
+    pub c: u64,
+    pub e: u64,
+    pub jerk: u64,
+    pub shortfall: u64,
+}
+
 pub enum PlanAnswer {
     Planned(Plan),
+    Refused(Refusal),
+}
+
+pub enum ThirdAnswer {
+    Planned(ThirdPlan),
     Refused(Refusal),
 }
 
@@ -93,6 +116,22 @@ pub fn plan_move(m: Move) -> PlanAnswer
     match answer {
         PlanAnswer::Planned(x) => PlanAnswer::Planned(divided(x)),
         PlanAnswer::Refused(refusal) => PlanAnswer::Refused(refusal),
+    }
+}
+
+// Plans a move in the third order, for drives without a bound on the snap: the move's own is not read.
+pub fn plan_third(m: Move) -> ThirdAnswer
+    ensures { λ r. ⌜ PlansThird m (thirdOutcome r) ⌝ }
+{
+    let figures = check_figures(m.displacement, m.velocity, m.acceleration, m.jerk, UNREAD);
+    match figures {
+        FiguresAnswer::Refused(refusal) => ThirdAnswer::Refused(refusal),
+        FiguresAnswer::InRange(distance) => third_in_range(
+            distance,
+            m.velocity,
+            m.acceleration,
+            m.jerk,
+        ),
     }
 }
 

@@ -1,5 +1,5 @@
--- How far the profile stays behind the exact one where the snap is rounded down: by what that leaves of the distance, times the
--- position of a unit snap.
+-- How far the profile stays behind the exact one where its size is rounded down: by what that leaves of the distance, times
+-- the position for size 1.
 use mathlib.Core.Path.{_≡_, sym, ap, _∙_}
 use mathlib.Core.List.{List}
 use Prim.Native.Nat.{ℕ, _+_, _*_, _≤_, _<_}

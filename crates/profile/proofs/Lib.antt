@@ -4,12 +4,12 @@ pub mod Totals
 pub mod RampLaws
 pub mod Delays
 pub mod DelayBounds
--- The snap in its segments, and the sums from rest.
+-- The switched value in its segments, and the sums from rest.
 pub mod SumLaws
-pub mod SnapLaws
+pub mod ValueLaws
 pub mod Lookup
 pub mod SwitchedLaws
--- The sums of the snap as ramps, over any list of widths.
+-- Its sums as ramps, over any list of widths.
 pub mod FirstSum
 pub mod LaterSums
 pub mod SpreadLaws
@@ -17,4 +17,6 @@ pub mod ProductLaws
 pub mod WidthLaws
 pub mod HalfCountLaw
 -- The profile of the paper.
-pub mod FourthOrder
+pub mod AnyOrder
+pub mod SizeLaws
+pub mod Orders

@@ -1,4 +1,4 @@
--- The sums of the snap over any list of widths: their size, their rest, and the last as a ramp that never falls.
+-- The sums of the switched value over any list of widths: their size, their rest, and the last as a ramp that never falls.
 use mathlib.Core.Path.{_≡_, refl}
 use mathlib.Core.List.{List, [], _∷_, _++_}
 use Prim.Native.Nat.{ℕ, suc, _-_, _*_, _≤_}
@@ -7,7 +7,7 @@ use native.Mathlib.Omega.{arith}
 use lib.IntN.{pos, natAbs}
 use lib.Signed.{_≤ℤ_}
 use lib.ListN.{length}
-use Rattle.profile.specs.Profile.{snapIn}
+use Rattle.profile.specs.Profile.{switchedIn}
 use Rattle.profile.specs.Inner.Repeated.{sums}
 use Rattle.profile.specs.Inner.Widths.{span, product, Spread, switched, ramp}
 use Rattle.profile.proofs.Differences.{size, level, value, forward}
@@ -23,15 +23,15 @@ sums-delayed :
     (a : ℕ) (outer inner : List ℕ)
     → Spread a (outer ++ inner)
     → (D : ℕ)
-    → DelayedRamp D a outer inner (sums (suc (length inner)) (snapIn (switched a (outer ++ inner)) D))
+    → DelayedRamp D a outer inner (sums (suc (length inner)) (switchedIn (switched a (outer ++ inner)) D))
 sums-delayed a outer inner s D =
-    later-sums D a inner outer (outer ++ inner) refl (snapIn (switched a (outer ++ inner)) D) (first-sum a D (outer ++ inner) s)
+    later-sums D a inner outer (outer ++ inner) refl (switchedIn (switched a (outer ++ inner)) D) (first-sum a D (outer ++ inner) s)
 
 pub sum-size :
     (a : ℕ) (outer inner : List ℕ)
     → Spread a (outer ++ inner)
     → (D k : ℕ)
-    → natAbs (sums (suc (length inner)) (snapIn (switched a (outer ++ inner)) D) k) ≤ D * product a inner
+    → natAbs (sums (suc (length inner)) (switchedIn (switched a (outer ++ inner)) D) k) ≤ D * product a inner
 sum-size a outer inner s D k =
     let within = delays-within (ramp-is a inner) outer (spread-outer a outer inner s) k in
     size (product a inner) (sums-delayed a outer inner s D k) (within .0) (within .1)
@@ -41,7 +41,7 @@ pub sum-rests :
     → Spread a (w ∷ (outer ++ inner))
     → (D k : ℕ)
     → span a (w ∷ (outer ++ inner)) ≤ k
-    → sums (suc (length inner)) (snapIn (switched a (w ∷ (outer ++ inner))) D) k ≡ pos 0
+    → sums (suc (length inner)) (switchedIn (switched a (w ∷ (outer ++ inner))) D) k ≡ pos 0
 sum-rests a w outer inner s D k h =
     let near = delays-near (ramp-is a inner) w outer (spread-outer a (w ∷ outer) inner s) in
     level (sums-delayed a (w ∷ outer) inner s D k) (near .rests k (rw (span-append a (w ∷ outer) inner) at h))
@@ -50,7 +50,7 @@ pub sum-forward :
     (a w : ℕ) (inner : List ℕ)
     → Spread a (w ∷ inner)
     → (D k : ℕ)
-    → pos 0 ≤ℤ sums (suc (length inner)) (snapIn (switched a (w ∷ inner)) D) k
+    → pos 0 ≤ℤ sums (suc (length inner)) (switchedIn (switched a (w ∷ inner)) D) k
 unfolding delays
 sum-forward a w inner s D k =
     forward (sums-delayed a (w ∷ []) inner s D k) (omega (arith, ramp-rising a inner (k - w) k (sub-le k w)))
@@ -59,6 +59,6 @@ pub sum-ramp :
     (a : ℕ) (ws : List ℕ)
     → Spread a ws
     → (D k : ℕ)
-    → sums (suc (length ws)) (snapIn (switched a ws) D) k ≡ pos (D * ramp a ws k)
+    → sums (suc (length ws)) (switchedIn (switched a ws) D) k ≡ pos (D * ramp a ws k)
 unfolding delays
 sum-ramp a ws s D k = value (ramp a ws k) (sums-delayed a [] ws s D k) (omega arith)

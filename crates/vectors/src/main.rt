@@ -12,6 +12,8 @@
 // b n length: read SETS MOVES sum S, or refused 11 line L sum S, or refused 12 sum S; then the report
 // P count and eight times X V A J S: planned N, or refused R place L; then eight times a b c e D shortfall
 // S count and eight times X V A J S, k: sample, or refused R place L; then eight times the numbers of a sample, as above
+// 3 p X V A J S: planned b c e jerk shortfall, in third order
+// 3 s, 3 t and 3 r, each with the numbers of its letter: the same in third order
 //
 // A move that is refused has `refused N` for its plan, its sample or its rows. A table is lent with the number of places that is asked for,
 // at most 4,200, and written from place `first` on, at most 12 places. The n bytes after a line of kind b are the start of a sheet's text,
@@ -32,6 +34,7 @@ use crate::axes::answer_axes_sample;
 use crate::forces::answer_forces;
 use crate::moves::answer_plan;
 use crate::moves::answer_sample;
+use crate::moves::answer_third_plan;
 use crate::numbers::read_byte;
 use crate::positions::answer_positions;
 use crate::sheets::answer_sheet;
@@ -54,14 +57,28 @@ fn answer(kind: u8) {
     read_byte();
     match kind {
         b'p' => answer_plan(),
-        b's' => answer_sample(),
-        b't' | b'r' => answer_positions(kind),
+        b's' => answer_sample(false),
+        b't' | b'r' => answer_positions(kind, false),
         b'f' => answer_forces(),
         b'b' => answer_sheet(),
         b'P' => answer_axes_plan(),
         b'S' => answer_axes_sample(),
-        _ => {
-            io::write_all(1, b"unknown kind\n");
-        }
+        b'3' => answer_third(read_byte()),
+        _ => write_unknown(),
     }
+}
+
+// The same in third order, with the letter after the 3.
+fn answer_third(kind: u8) {
+    read_byte();
+    match kind {
+        b'p' => answer_third_plan(),
+        b's' => answer_sample(true),
+        b't' | b'r' => answer_positions(kind, true),
+        _ => write_unknown(),
+    }
+}
+
+fn write_unknown() {
+    io::write_all(1, b"unknown kind\n");
 }

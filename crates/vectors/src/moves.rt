@@ -1,4 +1,4 @@
-// A move, its plan and one sample of it.
+// A move, its plan and one sample of it, in either order.
 use crate::numbers::SIGN;
 use crate::numbers::read_number;
 use crate::writing::write_byte;
@@ -10,6 +10,7 @@ use motion::SampleAnswer;
 use planner::Move;
 use planner::Plan;
 use planner::PlanAnswer;
+use planner::ThirdAnswer;
 
 // The number of which these are the two's complement. The least one has no positive counterpart, so the bits are inverted.
 fn signed(bits: u64) -> i64 {
@@ -50,8 +51,24 @@ pub(crate) fn write_plan(plan: Plan) {
     write_number(plan.shortfall);
 }
 
-pub(crate) fn answer_sample() {
-    let answer = motion::sample_move(read_move(), read_number());
+pub(crate) fn answer_third_plan() {
+    let answer = planner::plan_third(read_move());
+    match answer {
+        ThirdAnswer::Refused(refusal) => write_refused(planner::refusal_number(refusal)),
+        ThirdAnswer::Planned(plan) => {
+            io::write_all(1, b"planned");
+            write_number(plan.b);
+            write_number(plan.c);
+            write_number(plan.e);
+            write_number(plan.jerk);
+            write_number(plan.shortfall);
+        }
+    }
+    write_byte(b'\n');
+}
+
+pub(crate) fn answer_sample(third: bool) {
+    let answer = sampled(third, read_move(), read_number());
     match answer {
         SampleAnswer::Refused(refusal) => write_refused(motion::refusal_number(refusal)),
         SampleAnswer::Sampled(sample) => {
@@ -60,6 +77,13 @@ pub(crate) fn answer_sample() {
         }
     }
     write_byte(b'\n');
+}
+
+fn sampled(third: bool, requested: Move, k: u64) -> SampleAnswer {
+    if third {
+        return motion::sample_third(requested, k);
+    }
+    motion::sample_move(requested, k)
 }
 
 pub(crate) fn write_sample(sample: Sample) {

@@ -14,6 +14,7 @@ mod plans;
 mod samples;
 mod sheets;
 mod tables;
+mod third;
 
 use crate::differential::{misfit, Proved};
 use contest::Timed;
@@ -51,7 +52,7 @@ pub fn run() -> Result<String, String> {
     Ok(markdown::preface(REPEATS) + &tables)
 }
 
-fn sections() -> Result<[Section; 8], String> {
+fn sections() -> Result<[Section; 9], String> {
     Ok([
         plans::section()?,
         samples::section()?,
@@ -61,6 +62,7 @@ fn sections() -> Result<[Section; 8], String> {
         forces::section("Force table, filtered drive", &forces::FILTERED)?,
         sheets::section()?,
         axes::section()?,
+        third::section()?,
     ])
 }
 

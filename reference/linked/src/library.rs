@@ -5,7 +5,7 @@ mod forms;
 mod layout;
 
 pub use layout::{AxesPlanResult, AxesSampleResult, BoundSet, RouteMove};
-pub use layout::{PlanResult, SampleResult, SheetResult, TableResult};
+pub use layout::{PlanResult, SampleResult, SheetResult, TableResult, ThirdPlanResult};
 pub use layout::{MOST_MOVES, MOST_SETS, REPORT_BYTES};
 pub use reference::force::Machine;
 pub use reference::planner::{Axes, Move};
@@ -25,10 +25,14 @@ extern "C" {
     fn nitswolan_report(text: *const u8, length: usize, report: *mut u8) -> usize;
     fn nitswolan_plan_axes(axes: Axes) -> AxesPlanResult;
     fn nitswolan_sample_axes(axes: Axes, sample: u64) -> AxesSampleResult;
+    fn nitswolan_plan_third(motion: Move) -> ThirdPlanResult;
+    fn nitswolan_sample_third(motion: Move, sample: u64) -> SampleResult;
+    fn nitswolan_fill_positions_third(motion: Move, table: *mut i64, places: usize) -> TableResult;
+    fn nitswolan_fill_reference_third(motion: Move, table: *mut i64, places: usize) -> TableResult;
 }
 
 pub fn plan_move(motion: Move) -> PlanResult {
-    // SAFETY: only values are passed. This holds up to `sample_axes` too.
+    // SAFETY: only values are passed. This holds up to `sample_third` too.
     unsafe { nitswolan_plan_move(motion) }
 }
 
@@ -44,6 +48,14 @@ pub fn sample_axes(axes: Axes, sample: u64) -> AxesSampleResult {
     unsafe { nitswolan_sample_axes(axes, sample) }
 }
 
+pub fn plan_third(motion: Move) -> ThirdPlanResult {
+    unsafe { nitswolan_plan_third(motion) }
+}
+
+pub fn sample_third(motion: Move, sample: u64) -> SampleResult {
+    unsafe { nitswolan_sample_third(motion, sample) }
+}
+
 pub fn fill_positions(motion: Move, table: &mut [i64]) -> TableResult {
     // SAFETY: pointer and length are those of one slice. This holds below too.
     unsafe { nitswolan_fill_positions(motion, table.as_mut_ptr(), table.len()) }
@@ -51,6 +63,14 @@ pub fn fill_positions(motion: Move, table: &mut [i64]) -> TableResult {
 
 pub fn fill_reference(motion: Move, table: &mut [i64]) -> TableResult {
     unsafe { nitswolan_fill_reference(motion, table.as_mut_ptr(), table.len()) }
+}
+
+pub fn fill_positions_third(motion: Move, table: &mut [i64]) -> TableResult {
+    unsafe { nitswolan_fill_positions_third(motion, table.as_mut_ptr(), table.len()) }
+}
+
+pub fn fill_reference_third(motion: Move, table: &mut [i64]) -> TableResult {
+    unsafe { nitswolan_fill_reference_third(motion, table.as_mut_ptr(), table.len()) }
 }
 
 pub fn fill_force(motion: Move, machine: Machine, table: &mut [f64]) -> TableResult {

@@ -190,13 +190,13 @@ fn raised() -> Table {
     let raised = |name, is: fn(i64, Plan, Plan) -> bool| planned(name, move |set| set.raised(is));
     vec![
         raised("D falls, X > 0", |x, own, plan| {
-            x > 0 && plan.snap < own.snap
+            x > 0 && plan.switched < own.switched
         }),
         raised("D falls, X < 0", |x, own, plan| {
-            x < 0 && plan.snap < own.snap
+            x < 0 && plan.switched < own.switched
         }),
         raised("no shortfall", |_, _, plan| plan.shortfall == 0),
-        raised("D stays", |_, own, plan| plan.snap == own.snap),
+        raised("D stays", |_, own, plan| plan.switched == own.switched),
     ]
 }
 

@@ -3,7 +3,8 @@
 
 use super::axes::Set;
 use crate::force::{write_rows, Coefficients, Drive, Machine};
-use crate::planner::{deciding_lower_limits, deciding_searches, Intervals, Move};
+use crate::planner::{deciding_lower_limits, deciding_searches, product};
+use crate::planner::{Intervals, Move, Order};
 use crate::profile::{Profile, Sample};
 use crate::request::{Outcome, Request};
 use crate::sheet::{longest_beginning, Line, Parts};
@@ -38,8 +39,9 @@ impl Case<'_> {
             .map_or([0; 4], |motion| motion.bounds())
     }
 
-    fn found(&self) -> Option<Intervals> {
-        Intervals::of(self.request.motion()?).ok()
+    /// The intervals, also where N is above 4,096.
+    pub fn found(&self) -> Option<Intervals> {
+        Intervals::of(self.request.order(), self.request.motion()?).ok()
     }
 
     /// N, also where it is above 4,096; of a set the largest of its axes.
@@ -102,12 +104,12 @@ impl Case<'_> {
         })
     }
 
-    /// Whether W over P in floats, rounded down, is above D.
+    /// Whether W over P in floats, rounded down, is above what is switched.
     pub fn float_rounds_up(&self) -> bool {
         let (Some(motion), Some(found)) = (self.request.motion(), self.found()) else {
             return false;
         };
-        let (w, p) = (motion.w(), found.a * found.b * found.c * found.e);
+        let (w, p) = (motion.w(), product(found.all()));
         (w as f64 / p as f64) as u128 > w / p
     }
 
@@ -117,7 +119,7 @@ impl Case<'_> {
         let Request::Force(motion, sent, _) = self.request else {
             return false;
         };
-        let (Ok(profile), Some(read)) = (Profile::of(motion), sent.checked()) else {
+        let (Ok(profile), Some(read)) = (Profile::of(Order::Fourth, motion), sent.checked()) else {
             return false;
         };
         let mut table = vec![0.0; self.outcome.rows.len()];
@@ -129,7 +131,7 @@ impl Case<'_> {
 
     pub fn k(&self) -> u128 {
         match self.request {
-            Request::Sample(_, k) | Request::SampleAxes(_, k) => (*k).into(),
+            Request::Sample(_, _, k) | Request::SampleAxes(_, k) => (*k).into(),
             _ => 0,
         }
     }

@@ -2,7 +2,7 @@
 
 use super::moves::{self, BOUND_EDGES};
 use super::Random;
-use crate::planner::{plan, plan_axis, Axes, Move, MOST_AXES};
+use crate::planner::{plan, plan_axis, Axes, Move, Order, MOST_AXES};
 
 /// Counts that are refused; cut to 8, 32 or 63 bits some would not be.
 pub const WRONG_COUNTS: [u64; 6] = [0, 9, (1 << 8) + 3, (1 << 32) + 3, (1 << 63) + 3, u64::MAX];
@@ -56,7 +56,7 @@ fn refused(random: &mut Random) -> Move {
     loop {
         let motion = match random.below(3) {
             0 => at_rest(random),
-            _ => moves::any(random),
+            _ => moves::any(Order::Fourth, random),
         };
         if plan_axis(&motion).is_err() {
             return motion;
@@ -66,12 +66,16 @@ fn refused(random: &mut Random) -> Move {
 
 /// Gives some of the moving axes the length of the first one, and another shape.
 fn equal_lengths(axes: &mut [Move], random: &mut Random) {
-    let Some(n) = axes.iter().find_map(|motion| plan(motion).samples()) else {
+    let Some(n) = axes
+        .iter()
+        .find_map(|motion| plan(Order::Fourth, motion).samples())
+    else {
         return;
     };
     for axis in axes.iter_mut().filter(|axis| axis.displacement != 0) {
-        let other = moves::of_samples(n, [0; 3].map(|_| random.below(9)));
-        if plan(&other).samples() == Some(n) {
+        let shape = [0; 3].map(|_| random.below(9));
+        let other = moves::of_samples(Order::Fourth, n, shape);
+        if plan(Order::Fourth, &other).samples() == Some(n) {
             *axis = Move::new(
                 other.displacement * axis.displacement.signum(),
                 other.bounds(),

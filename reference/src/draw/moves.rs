@@ -1,7 +1,8 @@
 //! Moves: most can be planned, and many stand at the edge of a rule.
 
 use super::{paper, Random};
-use crate::planner::{plan, Move, LARGEST_BOUND, LARGEST_DISPLACEMENT, UNITS_PER_COUNT};
+use crate::planner::{plan, Move, Order};
+use crate::planner::{LARGEST_BOUND, LARGEST_DISPLACEMENT, UNITS_PER_COUNT};
 
 /// Displacements at which a move is allowed or not, with the refusal.
 pub const DISPLACEMENT_EDGES: [(i64, i128); 9] = [
@@ -25,31 +26,36 @@ pub const BOUND_EDGES: [(u64, bool); 5] = [
     (u64::MAX, false),
 ];
 
-/// Any move.
-pub fn any(random: &mut Random) -> Move {
-    match random.below(16) {
+/// Any move for plans of an order; in third order S is anything.
+pub fn any(order: Order, random: &mut Random) -> Move {
+    let mut motion = match random.below(16) {
         0 => random.pick(&paper::moves()),
-        1 | 2 => at_edges(random),
+        1 | 2 => at_edges(order, random),
         3 => independent(random),
-        4 | 5 => shortened(random),
+        4 | 5 => shortened(order, random),
         6 | 7 => {
-            let motion = exact(random);
+            let motion = exact(order, random);
             varied(motion, random)
         }
-        8 | 9 => few_digits(random),
+        8 | 9 => few_digits(order, random),
         10..=12 => {
-            let motion = led_to(true, random);
+            let motion = led_to(order, true, random);
             varied(motion, random)
         }
-        _ => led_to(false, random),
+        _ => led_to(order, false, random),
+    };
+    if order == Order::Third {
+        let (edge, any) = (random.pick(&BOUND_EDGES).0, random.log_uniform(u64::MAX));
+        motion.snap = random.pick(&[edge, any]);
     }
+    motion
 }
 
 /// A move that is accepted.
 pub fn planned(random: &mut Random) -> Move {
     loop {
-        let motion = any(random);
-        if plan(&motion).samples().is_some() {
+        let motion = any(Order::Fourth, random);
+        if plan(Order::Fourth, &motion).samples().is_some() {
             return motion;
         }
     }
@@ -65,16 +71,19 @@ fn samples(random: &mut Random) -> u64 {
 }
 
 /// Intervals a, b, c and e of this many samples, or up to 7 less.
-fn intervals(samples: u64, random: &mut Random) -> [u64; 4] {
+fn intervals(order: Order, samples: u64, random: &mut Random) -> [u64; 4] {
     let mut durations = [0; 4];
     let mut rest = samples;
+    // In third order p is 0, and so is a.
+    let first = 4 - order as usize;
     // The last of p, q, r and s that is not 0 takes all that is left.
-    let last = random.below(4) as usize;
-    for (k, unit) in [8, 4, 2, 1].into_iter().enumerate().take(last + 1) {
+    let last = first + random.below(4 - first as u64) as usize;
+    let units = [8, 4, 2, 1].into_iter().enumerate();
+    for (k, unit) in units.take(last + 1).skip(first) {
         let most = rest / unit;
         durations[k] = match k {
             _ if k == last => most,
-            0 => random.log_uniform(most).max(1),
+            _ if k == first => random.log_uniform(most).max(1),
             _ if random.once_in(2) => 0,
             _ => random.log_uniform(most),
         };
@@ -94,9 +103,9 @@ fn displacement(largest: u64, random: &mut Random) -> i64 {
 /// A move made backwards from intervals: each bound is what its last search needs
 /// for them, so that they, or near ones, come out. With `any_search` it is what any
 /// of its searches needs, and that one need not decide.
-fn led_to(any_search: bool, random: &mut Random) -> Move {
+fn led_to(order: Order, any_search: bool, random: &mut Random) -> Move {
     let samples = samples(random);
-    let intervals = intervals(samples, random).map(u128::from);
+    let intervals = intervals(order, samples, random).map(u128::from);
     let largest = match any_search {
         true => LARGEST_DISPLACEMENT,
         // Then the velocity is in range.
@@ -111,6 +120,7 @@ fn led_to(any_search: bool, random: &mut Random) -> Move {
 }
 
 /// A move of X with V, A, J and S for these intervals, each by one of its searches.
+/// Without an a the order is the third, and S is not read.
 pub fn bounded(x: i64, intervals: [u128; 4], searches: [u64; 3], random: &mut Random) -> Move {
     let [a, b, c, e] = intervals;
     let w = UNITS_PER_COUNT * u128::from(x.unsigned_abs());
@@ -125,6 +135,7 @@ pub fn bounded(x: i64, intervals: [u128; 4], searches: [u64; 3], random: &mut Ra
         _ => bound(w, b, |n| 2 * n * (a + n).pow(2), random),
     };
     let snap = match searches[2] {
+        _ if a == 0 => jerk,
         0 => bound(jerk, a, |n| n, random),
         1 => bound(acceleration, a, |n| n.pow(2), random),
         2 => bound(velocity, a, |n| 2 * n.pow(3), random),
@@ -150,10 +161,12 @@ fn bound(target: u128, n: u128, factor: impl Fn(u128) -> u128, random: &mut Rand
 /// A move without a shortfall, in which a by J, b by A, c by V and e by W hold with
 /// equality. Its snap has many zeros at its end, so that positions come to stand at
 /// half counts.
-fn exact(random: &mut Random) -> Move {
+fn exact(order: Order, random: &mut Random) -> Move {
     loop {
         let samples = random.between(8, 60);
-        let [a, b, c, e] = intervals(samples, random).map(u128::from);
+        let [a, b, c, e] = intervals(order, samples, random).map(u128::from);
+        // In third order the snap stands for the jerk.
+        let a = a.max(1);
         let snap = u128::from(2 * random.below(8) + 1) << random.between(30, 40);
         let velocity = snap * a * b * c;
         let (counts, left) = (
@@ -196,8 +209,8 @@ fn larger(bound: u64, random: &mut Random) -> u64 {
 }
 
 /// Bounds of four binary digits: a product past 64 bits leaves little there.
-fn few_digits(random: &mut Random) -> Move {
-    let motion = led_to(true, random);
+fn few_digits(order: Order, random: &mut Random) -> Move {
+    let motion = led_to(order, true, random);
     let cut = |bound: u64| {
         let zeros = 60_u32.saturating_sub(bound.leading_zeros());
         (bound >> zeros) << zeros
@@ -213,9 +226,9 @@ fn independent(random: &mut Random) -> Move {
 }
 
 /// Such a move with its displacement halved until it can be planned, if it can.
-fn shortened(random: &mut Random) -> Move {
+fn shortened(order: Order, random: &mut Random) -> Move {
     let mut motion = independent(random);
-    while motion.displacement.abs() > 1 && plan(&motion).samples().is_none() {
+    while motion.displacement.abs() > 1 && plan(order, &motion).samples().is_none() {
         motion.displacement /= 2;
     }
     motion
@@ -223,8 +236,8 @@ fn shortened(random: &mut Random) -> Move {
 
 /// One or two numbers at an edge or next to it: where both are refused, the
 /// lower refusal counts.
-fn at_edges(random: &mut Random) -> Move {
-    let mut motion = led_to(false, random);
+fn at_edges(order: Order, random: &mut Random) -> Move {
+    let mut motion = led_to(order, false, random);
     for _ in 0..random.between(1, 2) {
         let step = random.pick(&[-1, 0, 0, 1]);
         match random.below(5) as usize {
@@ -244,15 +257,19 @@ fn at_edges(random: &mut Random) -> Move {
 }
 
 /// A move of n samples, 8 or more, with each bound just large enough for its
-/// interval; so many sixteenths of n belong to p, to q and to r, the rest to s.
-pub fn of_samples(n: u64, [p, q, r]: [u64; 3]) -> Move {
-    let a = (n * p / 16 / 8).max(1);
-    let b = a + (n * q / 16).min(n - 8 * a) / 4;
+/// interval; so many sixteenths of n belong to p, to q and to r, the rest to s. In
+/// third order q has those of p, which is 0.
+pub fn of_samples(order: Order, n: u64, [p, q, r]: [u64; 3]) -> Move {
+    let (a, q) = match order {
+        Order::Third => (0, p + q),
+        Order::Fourth => ((n * p / 16 / 8).max(1), q),
+    };
+    let b = (a + (n * q / 16).min(n - 8 * a) / 4).max(1);
     let c = a + b + (n * r / 16).min(n - 4 * (a + b)) / 2;
     let e = n - a - b - c;
     let velocity = 100 * UNITS_PER_COUNT as u64;
     let acceleration = velocity.div_ceil(c);
     let jerk = acceleration.div_ceil(b);
-    let bounds = [velocity, acceleration, jerk, jerk.div_ceil(a)];
+    let bounds = [velocity, acceleration, jerk, jerk.div_ceil(a.max(1))];
     Move::new(100 * e as i64, bounds)
 }

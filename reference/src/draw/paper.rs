@@ -1,5 +1,6 @@
-//! Document 01's own values.
+//! Document 01's own values, and a move worked by chapter 5 of document 001.
 
+use super::moves::BOUND_EDGES;
 use crate::force::Machine;
 use crate::planner::{Move, UNITS_PER_COUNT};
 
@@ -24,6 +25,11 @@ pub fn moves() -> [Move; 16] {
         let x = if k < 8 { x } else { -x };
         Move::new(x, [velocity, acceleration, G, G])
     })
+}
+
+/// A move that has all seven segments in third order, with every S: it is not read.
+pub fn third() -> [Move; BOUND_EDGES.len()] {
+    BOUND_EDGES.map(|(snap, _)| Move::new(42, [6 * G, 2 * G, G, snap]))
 }
 
 /// m1 = 2 and c = 1, without and with k12 = 0.5.

@@ -2,16 +2,16 @@
 //! sample of a set.
 
 use super::{axes, halves, moves, Random};
-use crate::planner::{plan, plan_axes, Axes, Move, UNITS_PER_COUNT};
+use crate::planner::{plan, plan_axes, Axes, Move, Order, UNITS_PER_COUNT};
 use crate::profile::Profile;
 
 /// Any move and a sample.
-pub fn of_move(random: &mut Random) -> (Move, u64) {
+pub fn of_move(order: Order, random: &mut Random) -> (Move, u64) {
     if random.once_in(16) {
-        return halves::of_move(random);
+        return halves::of_move(order, random);
     }
-    let motion = moves::any(random);
-    let k = match Profile::of(&motion) {
+    let motion = moves::any(order, random);
+    let k = match Profile::of(order, &motion) {
         Ok(profile) => of_profile(&profile, random),
         Err(_) => random.log_uniform(5_000),
     };
@@ -36,9 +36,9 @@ fn of_any_axis(axes: &Axes, random: &mut Random) -> u64 {
     let axes = axes.moves.iter().zip(&set.plans);
     let moving: Vec<_> = axes.filter(|(_, plan)| plan.samples() > 0).collect();
     let (motion, raised) = random.pick(&moving);
-    match plan(motion).samples() {
+    match plan(Order::Fourth, motion).samples() {
         Some(own) if own < set.samples && random.once_in(3) => random.between(own + 1, set.samples),
-        _ => of_profile(&Profile::planned(motion, raised), random),
+        _ => of_profile(&Profile::planned(Order::Fourth, motion, raised), random),
     }
 }
 
@@ -82,8 +82,8 @@ pub fn beyond_half(position: i64) -> i64 {
 }
 
 /// Places for N and `more` rows: none, one too few, just enough, or longer.
-pub fn places(motion: &Move, more: u64, random: &mut Random) -> u64 {
-    let n = plan(motion).samples();
+pub fn places(order: Order, motion: &Move, more: u64, random: &mut Random) -> u64 {
+    let n = plan(order, motion).samples();
     let rows = n.unwrap_or_else(|| random.below(4_097)) + more;
     random.pick(&[
         0,

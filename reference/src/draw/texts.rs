@@ -1,7 +1,7 @@
 //! Texts: sheets, nearly sheets, and nothing like one.
 
 use super::{moves, paper, Random};
-use crate::planner::Move;
+use crate::planner::{Move, Order};
 use crate::sheet::{render, Sheet, SheetMove, LARGEST_TEXT, MOST_MOVES, MOST_SETS};
 
 pub type Text = Vec<u8>;
@@ -73,7 +73,7 @@ fn sheet(random: &mut Random) -> Text {
 /// A move whose numbers can stand in a sheet: they have at most 19 digits.
 fn written(random: &mut Random) -> Move {
     loop {
-        let motion = moves::any(random);
+        let motion = moves::any(Order::Fourth, random);
         let few = motion.bounds().iter().all(|bound| *bound < 10_u64.pow(19));
         if few && motion.displacement != i64::MIN {
             return motion;

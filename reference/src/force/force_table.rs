@@ -1,7 +1,7 @@
 //! The table of forces.
 
 use super::{Coefficients, Doubled, Drive, Machine};
-use crate::planner::Move;
+use crate::planner::{Move, Order};
 use crate::profile::{Profile, Segment, TableAnswer};
 use std::iter;
 
@@ -11,7 +11,7 @@ const MORE_ROWS: u64 = 2;
 /// Row k has the snap of sample k-2: two rows come before that of sample 0.
 const BEFORE: Segment = Segment {
     samples: 2,
-    snap: 0,
+    switched: 0,
 };
 
 /// Writes the forces of rows 0 to N+1 and keeps every later place, or writes
@@ -43,7 +43,7 @@ pub fn write_rows(profile: &Profile, q: &Coefficients, drive: Drive, table: &mut
 
 /// The profile and the machine as it is read, or the lowest refusal.
 fn accepted(motion: &Move, machine: &Machine, places: usize) -> Result<(Profile, Machine), u8> {
-    let profile = Profile::fitting(motion, places, MORE_ROWS)?;
+    let profile = Profile::fitting(Order::Fourth, motion, places, MORE_ROWS)?;
     let machine = machine.checked().ok_or(10)?;
     Ok((profile, machine))
 }
@@ -59,9 +59,9 @@ fn fill(profile: &Profile, q: &Coefficients, table: &mut [f64], mut force: impl 
     let mut rest = table;
     for segment in iter::once(&BEFORE).chain(&profile.segments) {
         let (rows, after) = rest.split_at_mut(segment.samples);
-        let d2 = 2 * segment.snap;
+        let d2 = 2 * segment.switched;
         for row in rows {
-            let next_jerk = jerk.wrapping_add(segment.snap);
+            let next_jerk = jerk.wrapping_add(segment.switched);
             let next_velocity = velocity.wrapping_add(acceleration);
             *row = force(q.u(Doubled {
                 d2,

@@ -1,6 +1,6 @@
 //! Sets of one to eight axes that arrive together (document 02, request 1).
 
-use super::{plan, Answer, Move, Plan};
+use super::{plan, Answer, Move, Order, Plan};
 
 pub const MOST_AXES: usize = 8;
 
@@ -65,9 +65,10 @@ pub fn plan_axes(axes: &Axes) -> Result<AxesPlan, AxesRefusal> {
 /// for its bounds alone.
 pub fn plan_axis(motion: &Move) -> Result<Plan, u8> {
     if motion.displacement == 0 {
-        return motion.bound_refusal().map_or(Ok(Plan::default()), Err);
+        let refusal = motion.bound_refusal(Order::Fourth);
+        return refusal.map_or(Ok(Plan::default()), Err);
     }
-    match plan(motion) {
+    match plan(Order::Fourth, motion) {
         Answer::Refused(number) => Err(number),
         Answer::Planned(plan) => Ok(plan),
     }

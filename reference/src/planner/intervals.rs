@@ -1,11 +1,12 @@
-//! The four intervals a, b, c and e of the paper, and the searches behind them.
+//! The four intervals a, b, c and e of the paper, and the searches behind them. In
+//! third order they follow the same rules with a = 0 and J1 = J.
 //!
 //! Nothing here passes 128 bits. W is at most 2^60 and each bound at most 2^50,
 //! so a is at most 2^15, b at most 2^20, c at most 2^31 and e at most 2^60. In a
 //! search the number before the last doubling fails, so the largest product
 //! tried is below 16·2^60, or it is the one at n = 1, below 2^51·(2^15+1)^2.
 
-use super::moves::Move;
+use super::{Move, Order};
 use crate::least::least;
 
 /// The least number found by each search, in the paper's order.
@@ -24,7 +25,8 @@ impl Searches {
     }
 }
 
-/// The intervals with the values that carry each rounding on to the next one.
+/// The intervals with the values that carry each rounding on to the next one. In
+/// third order a and its searches are 0.
 #[derive(Clone, Copy, Debug, PartialEq, Eq)]
 pub struct Intervals {
     pub a: u128,
@@ -42,14 +44,12 @@ pub struct Intervals {
 
 impl Intervals {
     /// The intervals of a move, or the one of the refusals 1 to 6 that applies.
-    pub fn of(motion: &Move) -> Result<Intervals, u8> {
-        if let Some(number) = motion.range_refusal() {
+    pub fn of(order: Order, motion: &Move) -> Result<Intervals, u8> {
+        if let Some(number) = motion.range_refusal(order) {
             return Err(number);
         }
         let bounds = Bounds::of(motion);
-        let for_a = bounds.searches_a();
-        let a = smallest(&for_a);
-        let j1 = bounds.j.min(bounds.s * a);
+        let (for_a, a, j1) = bounds.beginning(order);
         let for_b = bounds.searches_b(a, j1);
         let b = smallest(&for_b).max(a);
         let a1 = bounds.a.min(j1 * b);
@@ -80,6 +80,11 @@ impl Intervals {
     pub fn samples(&self) -> u128 {
         self.a + self.b + self.c + self.e
     }
+
+    /// a, b, c and e, which fit 64 bits.
+    pub fn all(&self) -> [u64; 4] {
+        [self.a, self.b, self.c, self.e].map(|n| n as u64)
+    }
 }
 
 /// W and the bounds V, A, J and S, wide enough for every product.
@@ -100,6 +105,16 @@ impl Bounds {
             j: motion.jerk.into(),
             s: motion.snap.into(),
         }
+    }
+
+    /// The searches for a, a itself, and J1.
+    fn beginning(&self, order: Order) -> ([u128; 4], u128, u128) {
+        if order == Order::Third {
+            return ([0; 4], 0, self.j);
+        }
+        let searches = self.searches_a();
+        let a = smallest(&searches);
+        (searches, a, self.j.min(self.s * a))
     }
 
     fn searches_a(&self) -> [u128; 4] {

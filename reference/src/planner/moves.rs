@@ -1,5 +1,7 @@
 //! A move as it is sent, and the refusals that need no planning.
 
+use super::Order;
+
 /// Units in one count (the paper's grains, G).
 pub const UNITS_PER_COUNT: u128 = 1 << 40;
 
@@ -44,18 +46,19 @@ impl Move {
     }
 
     /// The first of the refusals 1 to 6 that applies.
-    pub fn range_refusal(&self) -> Option<u8> {
+    pub fn range_refusal(&self, order: Order) -> Option<u8> {
         match self.displacement.unsigned_abs() {
             0 => Some(1),
             size if size > LARGEST_DISPLACEMENT => Some(2),
-            _ => self.bound_refusal(),
+            _ => self.bound_refusal(order),
         }
     }
 
-    /// The first of the refusals 3 to 6 that applies.
-    pub fn bound_refusal(&self) -> Option<u8> {
+    /// The first of the refusals 3 to 6 that applies; S is not read in third order.
+    pub fn bound_refusal(&self, order: Order) -> Option<u8> {
         let outside = |bound: &u64| !(1..=LARGEST_BOUND).contains(bound);
-        let first = self.bounds().iter().position(outside);
+        let read = &self.bounds()[..order as usize];
+        let first = read.iter().position(outside);
         first.map(|place| 3 + place as u8)
     }
 }

@@ -2,27 +2,28 @@
 
 use super::Move;
 
-/// The intervals a, b, c and e, the size of the snap (D) and the shortfall in
-/// units; all are 0 for an axis at rest. In C's layout, as the library gives it.
+/// The intervals a, b, c and e, of which a is 0 in third order; the size of the snap
+/// (D), or of the jerk; and the shortfall in units. All are 0 for an axis at rest. In
+/// C's layout, as the library gives it in fourth order.
 #[repr(C)]
 #[derive(Clone, Copy, Debug, Default, PartialEq, Eq)]
 pub struct Plan {
     pub intervals: [u64; 4],
-    pub snap: u64,
+    pub switched: u64,
     pub shortfall: u64,
 }
 
 impl Plan {
-    /// The snap D is W over P, rounded down; the shortfall is what that leaves of W.
+    /// The switched value is W over P, rounded down; the shortfall is what that leaves
+    /// of W.
     pub fn of(motion: &Move, intervals: [u64; 4]) -> Plan {
-        let w = motion.w();
-        let p: u128 = intervals.map(u128::from).iter().product();
-        let snap = w / p;
+        let (w, p) = (motion.w(), product(intervals));
+        let switched = w / p;
         // W is 2^60 at most, so that both fit 64 bits.
         Plan {
             intervals,
-            snap: snap as u64,
-            shortfall: (w - snap * p) as u64,
+            switched: switched as u64,
+            shortfall: (w - switched * p) as u64,
         }
     }
 
@@ -34,8 +35,13 @@ impl Plan {
     /// All six numbers.
     pub fn numbers(&self) -> [u64; 6] {
         let [a, b, c, e] = self.intervals;
-        [a, b, c, e, self.snap, self.shortfall]
+        [a, b, c, e, self.switched, self.shortfall]
     }
+}
+
+/// The product of the intervals (P in the paper). In third order there is no a.
+pub fn product([a, b, c, e]: [u64; 4]) -> u128 {
+    [a.max(1), b, c, e].map(u128::from).iter().product()
 }
 
 /// The durations p, q, r and s of the intervals a, b, c and e.

@@ -1,12 +1,12 @@
 //! The table of positions.
 
 use super::{Profile, TableAnswer};
-use crate::planner::Move;
+use crate::planner::{Move, Order};
 
 /// Writes the positions at samples 0 to N and keeps every later place, or
 /// writes nothing and refuses.
-pub fn position_table(motion: &Move, table: &mut [i64]) -> TableAnswer {
-    let profile = match Profile::fitting(motion, table.len(), 1) {
+pub fn position_table(order: Order, motion: &Move, table: &mut [i64]) -> TableAnswer {
+    let profile = match Profile::fitting(order, motion, table.len(), 1) {
         Ok(profile) => profile,
         Err(number) => return TableAnswer::Refused(number),
     };
@@ -24,13 +24,15 @@ fn fill(profile: &Profile, table: &mut [i64]) {
     let mut rest = table;
     for segment in &profile.segments {
         let (rows, after) = rest.split_at_mut(segment.samples);
+        let [snap, first] = profile.order.highest(segment.switched, jerk);
+        jerk = first;
         for row in rows {
             *row = position;
             // From the position up: each grows by a derivative not yet changed.
             position = position.wrapping_add(velocity);
             velocity = velocity.wrapping_add(acceleration);
             acceleration = acceleration.wrapping_add(jerk);
-            jerk = jerk.wrapping_add(segment.snap);
+            jerk = jerk.wrapping_add(snap);
         }
         rest = after;
     }

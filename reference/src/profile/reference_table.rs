@@ -1,12 +1,12 @@
 //! The table of reference rows for the feedback loop.
 
 use super::{Profile, TableAnswer};
-use crate::planner::Move;
+use crate::planner::{Move, Order};
 
 /// Writes the reference rows 0 to N and keeps every later place, or writes
 /// nothing and refuses.
-pub fn reference_table(motion: &Move, table: &mut [i64]) -> TableAnswer {
-    let profile = match Profile::fitting(motion, table.len(), 1) {
+pub fn reference_table(order: Order, motion: &Move, table: &mut [i64]) -> TableAnswer {
+    let profile = match Profile::fitting(order, motion, table.len(), 1) {
         Ok(profile) => profile,
         Err(number) => return TableAnswer::Refused(number),
     };

@@ -1,7 +1,7 @@
 //! One sample of a move, or of every axis of a set.
 
 use super::{rounded, Profile, Rounding};
-use crate::planner::{plan_axes, Axes, AxesRefusal, Move, MOST_AXES};
+use crate::planner::{plan_axes, Axes, AxesRefusal, Move, Order, MOST_AXES};
 
 /// What the one-sample entry says.
 #[derive(Clone, Copy, Debug, PartialEq, Eq)]
@@ -69,8 +69,8 @@ impl Sample {
 }
 
 /// The values at sample k, or the lowest refusal that applies.
-pub fn sample(motion: &Move, k: u64) -> SampleAnswer {
-    match Profile::of(motion) {
+pub fn sample(order: Order, motion: &Move, k: u64) -> SampleAnswer {
+    match Profile::of(order, motion) {
         Ok(profile) if k <= profile.samples => SampleAnswer::Sampled(Sample::of(&profile, k)),
         Ok(_) => SampleAnswer::Refused(9),
         Err(number) => SampleAnswer::Refused(number),
@@ -88,7 +88,8 @@ pub fn sample_axes(axes: &Axes, k: u64) -> Result<[Sample; MOST_AXES], AxesRefus
     let mut samples = [Sample::default(); MOST_AXES];
     for (place, plan) in set.plans.iter().enumerate() {
         if plan.samples() > 0 {
-            samples[place] = Sample::of(&Profile::planned(&axes.moves[place], plan), k);
+            let profile = Profile::planned(Order::Fourth, &axes.moves[place], plan);
+            samples[place] = Sample::of(&profile, k);
         }
     }
     Ok(samples)

@@ -1,4 +1,4 @@
-//! The four running sums.
+//! The running sums: four of the snap, or three of the jerk.
 
 /// Jerk, acceleration, velocity and position at one sample.
 ///

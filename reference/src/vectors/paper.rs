@@ -1,9 +1,10 @@
 //! Requests about document 01's own values: its moves in both directions, the first
 //! one's samples and tables, a half count of the second, the three forces, the sheet;
-//! and its moves as axes.
+//! its moves as axes, and in third order, with the samples and tables of the worked move.
 
 use crate::draw::paper;
 use crate::planner::Axes;
+use crate::planner::Order::{Fourth, Third};
 use crate::request::Request;
 
 /// Places of a table that are lent for a move of 8 samples: more than it fills.
@@ -12,12 +13,12 @@ const PLACES: u64 = 12;
 pub fn requests() -> Vec<Request> {
     let moves = paper::moves();
     let first = moves[0];
-    let mut list: Vec<Request> = moves.into_iter().map(Request::Plan).collect();
-    list.extend((0..=8).map(|k| Request::Sample(first, k)));
+    let mut list = moves.map(|motion| Request::Plan(Fourth, motion)).to_vec();
+    list.extend((0..=8).map(|k| Request::Sample(Fourth, first, k)));
     // At sample 4 the second is at half a count, which rounds to 1, and backward to -1.
-    list.extend([moves[1], moves[9]].map(|second| Request::Sample(second, 4)));
-    list.push(Request::Positions(first, PLACES));
-    list.push(Request::Reference(first, PLACES));
+    list.extend([moves[1], moves[9]].map(|second| Request::Sample(Fourth, second, 4)));
+    list.push(Request::Positions(Fourth, first, PLACES));
+    list.push(Request::Reference(Fourth, first, PLACES));
     list.extend(paper::machines().map(|machine| Request::Force(first, machine, PLACES)));
     list.push(Request::Sheet(paper::SHEET.to_vec()));
     let moves = std::array::from_fn(|place| moves[place]);
@@ -25,5 +26,17 @@ pub fn requests() -> Vec<Request> {
     // The second is longer than the first, the seventh than all; the last is refused.
     list.extend([1, 2, 7, 8].map(|count| Request::PlanAxes(set(count))));
     list.extend([4, 9, 12, 13].map(|k| Request::SampleAxes(set(2), k)));
+    list.extend(third());
+    list
+}
+
+/// The fifth is at a half count at sample 5. The worked move has 12 samples.
+fn third() -> Vec<Request> {
+    let (moves, [worked, ..]) = (paper::moves(), paper::third());
+    let mut list = moves.map(|motion| Request::Plan(Third, motion)).to_vec();
+    list.extend([moves[4], moves[12]].map(|fifth| Request::Sample(Third, fifth, 5)));
+    list.extend((0..=13).map(|k| Request::Sample(Third, worked, k)));
+    list.push(Request::Positions(Third, worked, 15));
+    list.push(Request::Reference(Third, worked, 15));
     list
 }

@@ -1,7 +1,7 @@
 //! Requests and answers as text, in the form that the program `vectors` has.
 
 use crate::force::Machine;
-use crate::planner::{Axes, Move};
+use crate::planner::{Axes, Move, Order};
 use crate::request::{Outcome, Request};
 
 /// Places of a table that are written out; the sum is over all of them.
@@ -11,15 +11,16 @@ const SHOWN: usize = 12;
 const MARK: u64 = 1 << 62;
 const FORCE_MARK: u64 = (1_023 + 900) << 52;
 
-/// A letter and numbers, in a line; the bytes of a sheet follow it.
+/// A letter and numbers, in a line, in third order after a 3; the bytes of a sheet
+/// follow it.
 pub fn input(request: &Request, outcome: &Outcome) -> Vec<u8> {
     let line = match request {
-        Request::Plan(motion) => format!("p{}", of_move(motion)),
-        Request::Sample(motion, k) => format!("s{} {k}", of_move(motion)),
-        Request::Positions(motion, places) => {
+        Request::Plan(_, motion) => format!("p{}", of_move(motion)),
+        Request::Sample(_, motion, k) => format!("s{} {k}", of_move(motion)),
+        Request::Positions(_, motion, places) => {
             format!("t{} {places} {}", of_move(motion), first(*places, outcome))
         }
-        Request::Reference(motion, places) => {
+        Request::Reference(_, motion, places) => {
             format!("r{} {places} {}", of_move(motion), first(*places, outcome))
         }
         Request::Force(motion, machine, places) => {
@@ -30,7 +31,11 @@ pub fn input(request: &Request, outcome: &Outcome) -> Vec<u8> {
         Request::PlanAxes(axes) => format!("P{}", of_axes(axes)),
         Request::SampleAxes(axes, k) => format!("S{} {k}", of_axes(axes)),
     };
-    (line + "\n").into_bytes()
+    let order = match request.order() {
+        Order::Third => "3 ",
+        Order::Fourth => "",
+    };
+    format!("{order}{line}\n").into_bytes()
 }
 
 fn of_move(motion: &Move) -> String {
@@ -72,9 +77,9 @@ fn sheet_input(text: &[u8]) -> Vec<u8> {
 pub fn output(request: &Request, outcome: &Outcome) -> Vec<u8> {
     let fields = &outcome.fields;
     let line = match request {
-        Request::Plan(_) => answer("planned", &fields[2..], outcome),
+        Request::Plan(..) => answer("planned", &fields[2..], outcome),
         Request::Sample(..) => answer("sample", &fields[1..], outcome),
-        Request::Positions(_, places) | Request::Reference(_, places) => {
+        Request::Positions(_, _, places) | Request::Reference(_, _, places) => {
             table(*places, outcome, MARK, |place| format!(" {}", place as i64))
         }
         Request::Force(_, _, places) => table(*places, outcome, FORCE_MARK, |place| {

@@ -14,8 +14,10 @@ use Rattle.motion.specs.ForceRows.Doubled.{Doubled, earlier, upTo, doubl
 use Rattle.motion.specs.Inner.Steps.{stateAt}
 use Rattle.motion.specs.Inner.Planned.{WithinRange, directedSnap, plannedNumbers}
 use Rattle.motion.proofs.IntegerLaws.{size-sum, size-doubled}
+use Rattle.motion.proofs.OrderedLaws.{fourth-end}
+use Rattle.motion.proofs.KeptRules.{fourth-follows}
 use Rattle.motion.proofs.RestLaws as rest
-use Rattle.motion.proofs.StateLaws.{directed, state-is, snap-most, jerk-most, acceleration-most, velocity-most}
+use Rattle.motion.proofs.StateLaws.{directed, state-is, snap-below, jerk-below, acceleration-below, velocity-below}
 
 -- a value that is 0 after N anyway
 cut : (N : ℕ) (f : ℕ → ℤ) → ((k : ℕ) → N ≤ k → f k ≡ pos 0) → upTo N f ≡ f
@@ -55,9 +57,9 @@ module _ (X : ℤ) (t : Intervals) (D : ℕ) (h : WithinRange t D) where
       let o = h .ordered in
       rw (
         cut n snap (rest.snap-rests X o D),
-        cut n (λ k. valuesAt X t D k .jerk) (rest.jerk-rests X o D),
-        cut n (λ k. valuesAt X t D k .acceleration) (rest.acceleration-rests X o D),
-        cut n (λ k. valuesAt X t D k .velocity) (rest.velocity-rests X o D),
+        cut n (λ k. valuesAt X t D k .jerk) (λ k l. rest.jerk-rests (fourth-follows X t D) (fourth-end o D k l)),
+        cut n (λ k. valuesAt X t D k .acceleration) (λ k l. rest.acceleration-rests (fourth-follows X t D) (fourth-end o D k l)),
+        cut n (λ k. valuesAt X t D k .velocity) (λ k l. rest.velocity-rests (fourth-follows X t D) (fourth-end o D k l)),
       )
       (λ i. doubled snap (λ k. by-sums k i .jerk) (λ k. by-sums k i .acceleration) (λ k. by-sums k i .velocity))
 
@@ -65,13 +67,14 @@ module _ (X : ℤ) (t : Intervals) (D : ℕ) (h : WithinRange t D) where
   unfolding doubled sums
   castable k =
       record {
-        d2 = twice (earlier snap 2 k) (earlier-size snap (2 ^ 50) (snap-most X t D h) 2 k);
+        d2 = twice (earlier snap 2 k) (earlier-size snap (2 ^ 50) (snap-below X t D h (2 ^ 50) (h .speed)) 2 k);
         j2 =
-            both (earlier (sums 1 snap) 1 k) (earlier (sums 1 snap) 2 k) (earlier-size (sums 1 snap) (2 ^ 50) (jerk-most X t D h) 1 k)
-            (earlier-size (sums 1 snap) (2 ^ 50) (jerk-most X t D h) 2 k);
-        a2 = twice (earlier (sums 2 snap) 1 k) (earlier-size (sums 2 snap) (2 ^ 50) (acceleration-most X t D h) 1 k);
+            both (earlier (sums 1 snap) 1 k) (earlier (sums 1 snap) 2 k)
+            (earlier-size (sums 1 snap) (2 ^ 50) (jerk-below X t D h (2 ^ 50) (h .speed)) 1 k)
+            (earlier-size (sums 1 snap) (2 ^ 50) (jerk-below X t D h (2 ^ 50) (h .speed)) 2 k);
+        a2 = twice (earlier (sums 2 snap) 1 k) (earlier-size (sums 2 snap) (2 ^ 50) (acceleration-below X t D h (2 ^ 50) (h .speed)) 1 k);
         v2 =
             both (earlier (sums 3 snap) 0 k) (earlier (sums 3 snap) 1 k)
-            (earlier-size (sums 3 snap) (2 ^ 50) (velocity-most X t D h) 0 k)
-            (earlier-size (sums 3 snap) (2 ^ 50) (velocity-most X t D h) 1 k);
+            (earlier-size (sums 3 snap) (2 ^ 50) (velocity-below X t D h (2 ^ 50) (h .speed)) 0 k)
+            (earlier-size (sums 3 snap) (2 ^ 50) (velocity-below X t D h (2 ^ 50) (h .speed)) 1 k);
       }

@@ -18,11 +18,12 @@ use Rattle.planner.specs.Least.{firstFrom, least}
 use Rattle.planner.specs.Result.{Result, firstRefusal}
 use Rattle.planner.specs.Outcome.{intervalsOf, samplesOf, outcomeOf}
 use Rattle.planner.specs.Inner.Facts.{PlanFacts}
+use Rattle.planner.proofs.Acceptance.{accepted-passes}
 use Rattle.planner.proofs.PlannedFacts.{planned-facts}
 use Rattle.planner.proofs.StarredMoves.{firstStarred}
-use Rattle.profile.specs.Profile.{segments, level, snapIn, sum}
+use Rattle.profile.specs.Profile.{segments, level, switchedIn, sum}
 use Rattle.profile.specs.Profile as profile
-use Rattle.motion.specs.Sampling.{valuesAt}
+use Rattle.motion.specs.Sampling.{valuesAt, fourthOrder}
 use Rattle.motion.specs.ForceRows.Machine.{Machine, plusZero, asRead, machineAsRead, inRange, machineInRange}
 use Rattle.motion.specs.ForceRows.Doubled.{Doubled, earlier, upTo, doubled}
 use Rattle.motion.specs.ForceRows.Force.{wholes, sumInU, q1, q2, q3, q4, weightedSum}
@@ -98,7 +99,7 @@ computed k = within (expressionOfU whole (plannedNumbers (pos 8) intervals G k))
 
 rows : T (allBelow computed 10)
 unfolding allBelow computed within machine whole inWholes sumInU weightedSum q1 q2 q3 q4 doubled earlier upTo
-    valuesAt along profile.snap profile.jerk profile.acceleration profile.velocity sum segments snapIn level
+    valuesAt along profile.snap profile.jerk profile.acceleration profile.velocity sum segments switchedIn level
 rows = tt
 
 all-below : (f : ℕ → Bool) (n : ℕ) → T (allBelow f n) → (k : ℕ) → k < n → T (f k)
@@ -121,13 +122,13 @@ abbrev pub ten : List Float
 ten = replicate 10 plusZero
 
 abbrev pub filledTen : List Float
-filledTen = ruleTable firstStarred (machineCheck machine ∷ []) (samplesOf firstStarred + 2) (force firstStarred machine) ten
+filledTen = ruleTable (fourthOrder firstStarred) (machineCheck machine ∷ []) (samplesOf firstStarred + 2) (force firstStarred machine) ten
 
 pub exact-example : (k : ℕ) → k < 10 → IsRounded (getD filledTen k plusZero) (sumInU wholes whole (rowNumbers firstStarred k)) (2 * 7)
 unfolding whole FillsForce
 exact-example k l =
     let rows : samplesOf firstStarred + 2 ≡ 10 = sym (rows-are plan 2) in
-    let filled = rule-fills firstStarred (machineCheck machine ∷ []) (samplesOf firstStarred + 2) (force firstStarred machine) ten in
-    let ten-rows = filled-outcome (plan .accepted) (rw rows (lit≤ tt)) (ap not in-range, tt) filled in
+    let filled = rule-fills (fourthOrder firstStarred) (machineCheck machine ∷ []) (samplesOf firstStarred + 2) (force firstStarred machine) ten in
+    let ten-rows = filled-outcome (accepted-passes firstStarred (plan .accepted)) (rw rows (lit≤ tt)) (ap not in-range, tt) filled in
     rigid-row firstStarred machine whole is-whole refl ten filledTen (samplesOf firstStarred + 2)
     (subst (λ (o : Result ℕ ℕ). FillsForce firstStarred machine ten o filledTen) ten-rows filled) k (rw rows l) (rows-within k l) plusZero

@@ -10,13 +10,14 @@ use lib.Ieee.{Float, eq}
 use lib.Ieee.Fits.{and-i}
 use lib.Ieee.Scale.{finite}
 use lib.Ieee.Positive.{own-value}
+use Rattle.planner.proofs.Acceptance.{passed-accepted}
 use Rattle.motion.specs.ForceRows.Machine.{Machine, plusZero, machineAsRead}
 use Rattle.motion.specs.ForceRows.Doubled.{Doubled}
 use Rattle.motion.specs.ForceRows.Force.{u, alpha, beta, rigid, filtered, driveOf, filteredForce, forceOf, forceRow}
 use Rattle.motion.specs.Inner.Rows.{Castable}
 use Rattle.motion.specs.Tables.{rowNumbers, force, FillsForce}
 use Rattle.motion.specs.ForceRows.Claims.{FiniteClaim}
-use Rattle.motion.proofs.FillLaws.{filled-accepted, filled-rows, filled-at}
+use Rattle.motion.proofs.FillLaws.{filled-passes, filled-rows, filled-at}
 use Rattle.motion.proofs.ForceRows.MachineLaws.{InRange, in-range, stiffness-positive}
 use Rattle.motion.proofs.ForceRows.Theorems.{rows-castable, filled-range}
 use Rattle.motion.proofs.ForceRows.SizeLaws.{_⪯_, ⪯-closed, bound, representable}
@@ -74,7 +75,7 @@ module _ (m : Machine Float) (w : ℕ → Doubled ℤ) (range : InRange m) (cast
 pub rows-finite : FiniteClaim
 unfolding FillsForce force
 rows-finite m machine old new rows filled k l absent =
-    let h = filled-accepted filled in
+    let h = passed-accepted m (filled-passes filled) in
     rw (filled-at filled absent k l)
     (row-finite (machineAsRead machine) (rowNumbers m) (in-range (machineAsRead machine) (filled-range machine filled)) (rows-castable h) k
     (omega (arith, h .short-enough, filled-rows filled)))

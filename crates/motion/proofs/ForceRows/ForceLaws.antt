@@ -9,6 +9,7 @@ use lib.ListN.{length}
 use lib.Ieee.{Float}
 use Rattle.planner.specs.Intervals.{Intervals, N}
 use Rattle.profile.specs.Profile.{sum}
+use Rattle.profile.specs.Profile as profile
 use Rattle.profile.specs.Inner.Repeated.{sums}
 use Rattle.motion.specs.ForceRows.Machine.{Machine, plusZero}
 use Rattle.motion.specs.ForceRows.Doubled.{Doubled, earlier, doubled}
@@ -21,6 +22,9 @@ use Rattle.motion.specs.Inner.Steps.{stateAt}
 use Rattle.motion.specs.Inner.Runs.{CanRun, Ran}
 use Rattle.motion.specs.Inner.Rows.{IsFeedforward, uBy, forceBy, rowIn, firstRow, forceWriter}
 use Rattle.motion.specs.Inner.Planned.{WithinRange, directedSnap, RowsIn, plannedNumbers}
+use Rattle.motion.specs.Sampling.{valuesAt}
+use Rattle.motion.specs.Inner.SegmentLists.{fourthSegments}
+use Rattle.motion.proofs.OrderedLaws.{fourth-samples}
 use Rattle.motion.proofs.StepLaws.{next}
 use Rattle.motion.proofs.StateLaws.{step-fits}
 use Rattle.motion.proofs.RowLaws.{Carries}
@@ -87,20 +91,21 @@ module _ (X : ℤ) (t : Intervals) (D : ℕ) (h : WithinRange t D) {m : Machine 
       (trailing : ℕ) {places : ℕ}
       → trailing ≤ 2
       → N t + trailing ≤ places
-      → CanRun (forceWriter x) (run X t D h trailing) firstRow places
-  unfolding rowStateAt earlierAt previousRow doubled earlier sum sums
+      → CanRun (forceWriter x) (run X (fourthSegments t) D trailing) firstRow places
+  unfolding rowStateAt earlierAt previousRow doubled earlier sum sums valuesAt profile.snap
   forces-can-run trailing few l =
-      can-run X t D h (carried is snap) trailing
+      can-run X (fourthSegments t) D (N t) (fourth-samples (h .ordered)) (carried is snap) trailing
       (λ i k. record { step = step-fits X t D h i (omega (arith, h .samples)); casts = castable X t D h i })
       l
 
   pub forces-in :
       {old new : List Float} {end : RowState}
       → N t + 2 ≤ length old
-      → Ran (forceWriter x) (run X t D h 2) firstRow old new end
+      → Ran (forceWriter x) (run X (fourthSegments t) D 2) firstRow old new end
       → RowsIn (N t + 2) (forceRow m (plannedNumbers X t D)) old new
-  unfolding rowStateAt earlierAt previousRow earlier sum sums
+  unfolding rowStateAt earlierAt previousRow earlier sum sums valuesAt profile.snap
   forces-in {old} {new} l ran =
       let same : (λ k. rowIn x (rowStateAt is snap k) .force) ≡ forceRow m (plannedNumbers X t D) =
       fun-ext (λ k. ap (λ (r : Row). r .force) (row-is is snap k)) ∙ ap (forceRow m) (sym (numbers-are X t D h)) in
-      subst (λ (row : ℕ → Float). RowsIn (N t + 2) row old new) same (rows-in X t D h (carried is snap) 2 l ran)
+      subst (λ (row : ℕ → Float). RowsIn (N t + 2) row old new) same
+      (rows-in X (fourthSegments t) D (N t) (fourth-samples (h .ordered)) (carried is snap) 2 l ran)

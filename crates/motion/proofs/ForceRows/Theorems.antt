@@ -9,11 +9,13 @@ use lib.Dec.{T, lit<}
 use lib.IntN.{ℤ, pos, natAbs}
 use lib.Ieee.{Float, fin, up, down, eq}
 use lib.Ieee.Positive.{positive, value-pos}
+use Rattle.planner.proofs.Acceptance.{passed-accepted}
 use Rattle.planner.specs.Quantities.{signed}
 use Rattle.planner.specs.Result.{Result, given}
 use Rattle.planner.specs.Claims.{Accepted}
 use Rattle.planner.specs.declared.Move.{Move}
 use Rattle.planner.proofs.PlannedFacts.{rule-facts}
+use Rattle.motion.specs.Sampling.{Motion}
 use Rattle.motion.specs.ForceRows.Machine.{Machine, plusZero, asRead, machineAsRead, machineInRange}
 use Rattle.motion.specs.ForceRows.Doubled.{Doubled}
 use Rattle.motion.specs.ForceRows.Force.{sumInU, q1, q2, q3, q4, weightedSum}
@@ -21,7 +23,7 @@ use Rattle.motion.specs.ForceRows.Claims.{IsWhole, inWholes, Within53, H
 use Rattle.motion.specs.Inner.Rows.{Castable}
 use Rattle.motion.specs.Tables.{machineCheck, rowNumbers, force, Fills, FillsForce}
 use Rattle.motion.proofs.EntryLaws.{within-range, numbers-are}
-use Rattle.motion.proofs.FillLaws.{filled-accepted, filled-own, filled-at}
+use Rattle.motion.proofs.FillLaws.{filled-passes, filled-own, filled-at}
 use Rattle.motion.proofs.AnswerLaws.{one-table-outcome}
 use Rattle.motion.proofs.ForceRows.DoubledLaws as doubled
 use Rattle.motion.proofs.ForceRows.WholeFloats.{read-whole-machine}
@@ -56,8 +58,8 @@ above-zero p h = by-form (λ x z. T (positive x) → (z ≡ pos (natAbs z)) × (
 
 -- what a filled table says of the machine
 pub filled-range :
-    {m : Move} (machine : Machine Float) {rows n : ℕ} {row : ℕ → Float} {old new : List Float}
-    → Fills m (machineCheck machine ∷ []) rows row old (given n) new
+    {x : Motion} (machine : Machine Float) {rows n : ℕ} {row : ℕ → Float} {old new : List Float}
+    → Fills x (machineCheck machine ∷ []) rows row old (given n) new
     → machineInRange (machineAsRead machine) ≡ true
 filled-range machine filled = not-false _ (filled-own filled .0)
 
@@ -68,7 +70,8 @@ rigid-row m machine whole is rigid old new rows filled k l within absent =
     let range = in-range (machineAsRead machine) (filled-range machine filled) in
     let c = above-zero (stiffness-positive (machineAsRead machine) range) (read .c) in
     rw (filled-at filled absent k l)
-    (rigid-exact (machineAsRead machine) whole (rowNumbers m) k read (rows-castable (filled-accepted filled) k) within rigid (c .0) (c .1))
+    (rigid-exact (machineAsRead machine) whole (rowNumbers m) k read (rows-castable (passed-accepted m (filled-passes filled)) k) within
+    rigid (c .0) (c .1))
 
 abbrev minusZero : Float
 minusZero = fin true 0 (pos 0)

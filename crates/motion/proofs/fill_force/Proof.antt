@@ -4,7 +4,7 @@ use mir.Syntax.{w64}
 use mir.Facts.{toZ-ofZ}
 use Rattle.motion.specs.Tables.{FillsForce}
 use Rattle.planner.proofs.PlannedFacts.{answer-facts}
-use Rattle.motion.proofs.EntryLaws.{not-planned, within-range, rows-are, force-is}
+use Rattle.motion.proofs.EntryLaws.{not-planned, plan-refused, fourth-planned, within-range, rows-are, force-is}
 use Rattle.motion.proofs.FillLaws.{fills-refused, fills}
 use Rattle.motion.proofs.fill_force.Statement.{statement}
 use Rattle.motion.proofs.fill_force.Tie as tie
@@ -18,12 +18,12 @@ enum-known-answer c = search needs
 enum-told : tie.Need-enum-told
 enum-told c = search needs
 
-unfilled-requires : tie.Need-unfilled-requires
-unfilled-requires c κs = not-planned (c .enum-told .given .1)
+plan-refusal-requires : tie.Need-plan-refusal-requires
+plan-refusal-requires c κs = not-planned (c .enum-told .given .1)
 
 returns : tie.Need-returns
 unfolding FillsForce
-returns c = fills-refused (c .before .before .before .plan-move .ensures) (c .unfilled .ensures)
+returns c = fills-refused _ _ (plan-refused (c .before .before .before .plan-move .ensures) (c .plan-refusal .ensures))
 
 write-rows-requires : tie.Need-write-rows-requires
 write-rows-requires c κs =
@@ -41,7 +41,7 @@ returns-2 c =
     let displacement = d .before .before .before .before .args .m .displacement in
     let back = toZ-ofZ {w = w64} {z = displacement} (record { sfits = w .before .struct-told .given .0 .1 }) in
     let h = answer-facts (d .before .before .plan-move .ensures) (d .answer .given .1) in
-    fills (h .accepted) (rows-are h 2) (force-is h _) (rw back at (w .write-rows .ensures))
+    fills (fourth-planned h .pass) (rows-are h 2) (force-is h _) (rw back at (w .write-rows .ensures))
 
 pub fill-force-spec : {M : Type 1} → statement M
 fill-force-spec =
@@ -50,7 +50,7 @@ fill-force-spec =
     plan-move-requires
     enum-known-answer
     enum-told
-    unfilled-requires
+    plan-refusal-requires
     returns
     write-rows-requires
     same-length

@@ -4,8 +4,8 @@ use mir.Syntax.{w64}
 use mir.Facts.{toZ-ofZ}
 use Rattle.motion.specs.Tables.{FillsPositions}
 use Rattle.planner.proofs.PlannedFacts.{answer-facts}
-use Rattle.motion.proofs.EntryLaws.{not-planned, within-range, rows-are, position-is}
-use Rattle.motion.proofs.FillLaws.{fills-refused, fills}
+use Rattle.motion.proofs.EntryLaws.{not-planned, plan-refused, fourth-planned, within-range}
+use Rattle.motion.proofs.FillLaws.{fills-refused, fills-positions}
 use Rattle.motion.proofs.fill_positions.Statement.{statement}
 use Rattle.motion.proofs.fill_positions.Tie as tie
 
@@ -18,12 +18,12 @@ enum-known-answer c = search needs
 enum-told : tie.Need-enum-told
 enum-told c = search needs
 
-unfilled-requires : tie.Need-unfilled-requires
-unfilled-requires c κs = not-planned (c .enum-told .given .1)
+plan-refusal-requires : tie.Need-plan-refusal-requires
+plan-refusal-requires c κs = not-planned (c .enum-told .given .1)
 
 returns : tie.Need-returns
 unfolding FillsPositions
-returns c = fills-refused (c .before .before .before .plan-move .ensures) (c .unfilled .ensures)
+returns c = fills-refused _ _ (plan-refused (c .before .before .before .plan-move .ensures) (c .plan-refusal .ensures))
 
 write-positions-requires : tie.Need-write-positions-requires
 write-positions-requires c κs =
@@ -34,14 +34,13 @@ same-length : tie.Need-same-length
 same-length c = search needs
 
 returns-2 : tie.Need-returns-2
-unfolding FillsPositions
 returns-2 c =
     let d = c .before .before .before .before .before in
     let back =
     toZ-ofZ {w = w64} {z = d .before .before .before .args .m .displacement}
     (record { sfits = c .before .before .struct-told .given .0 .1 }) in
     let h = answer-facts (d .before .before .plan-move .ensures) (d .answer .given .1) in
-    fills (h .accepted) (rows-are h 1) (position-is h) (rw back at (c .before .write-positions .ensures))
+    fills-positions (fourth-planned h) (rw back at (c .before .write-positions .ensures))
 
 pub fill-positions-spec : {M : Type 1} → statement M
 fill-positions-spec =
@@ -50,7 +49,7 @@ fill-positions-spec =
     plan-move-requires
     enum-known-answer
     enum-told
-    unfilled-requires
+    plan-refusal-requires
     returns
     write-positions-requires
     same-length

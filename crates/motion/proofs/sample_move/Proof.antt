@@ -5,7 +5,7 @@ use mir.Facts.{toZ-ofZ}
 use Rattle.planner.specs.Outcome.{intervalsOf}
 use Rattle.planner.specs.Inner.Facts.{PlanFacts}
 use Rattle.planner.proofs.PlannedFacts.{answer-facts}
-use Rattle.motion.proofs.EntryLaws.{not-planned, within-range}
+use Rattle.motion.proofs.EntryLaws.{not-planned, plan-refused, fourth-planned, within-range}
 use Rattle.motion.proofs.SamplingLaws.{sample-refused, sample-past, sample-given}
 use Rattle.motion.proofs.sample_move.Statement.{statement}
 use Rattle.motion.proofs.sample_move.Tie as tie
@@ -19,11 +19,11 @@ enum-known-answer c = search needs
 enum-told : tie.Need-enum-told
 enum-told c = search needs
 
-unsampled-requires : tie.Need-unsampled-requires
-unsampled-requires c κs = not-planned (c .enum-told .given .1)
+plan-refusal-requires : tie.Need-plan-refusal-requires
+plan-refusal-requires c κs = not-planned (c .enum-told .given .1)
 
 returns : tie.Need-returns
-returns c = sample-refused (c .before .before .before .plan-move .ensures) (c .unsampled .ensures)
+returns c = sample-refused _ _ _ _ (plan-refused (c .before .before .before .plan-move .ensures) (c .plan-refusal .ensures))
 
 -- the plan that was found
 plan : (c : tie.After-answer)
@@ -34,7 +34,7 @@ samples-in-plan-requires : tie.Need-samples-in-plan-requires
 samples-in-plan-requires c κs = within-range (plan (c .before))
 
 returns-2 : tie.Need-returns-2
-returns-2 c = sample-past (plan (c .before .before .before)) (rw (c .before .samples-in-plan .ensures) at (c .if1 .taken))
+returns-2 c = sample-past (fourth-planned (plan (c .before .before .before))) (rw (c .before .samples-in-plan .ensures) at (c .if1 .taken))
 
 sample-in-plan-requires : tie.Need-sample-in-plan-requires
 sample-in-plan-requires c κs =
@@ -46,7 +46,7 @@ returns-3 c =
     let d = c .before .before .before in
     let x = d .before .before .before .before .before .args .m .displacement in
     let back = toZ-ofZ {w = w64} {z = x} (record { sfits = c .before .struct-told .given .0 .1 }) in
-    sample-given (plan (d .before .before)) (rw (d .samples-in-plan .ensures) at (c .before .before .if1 .left))
+    sample-given (fourth-planned (plan (d .before .before))) (rw (d .samples-in-plan .ensures) at (c .before .before .if1 .left))
     (rw back at (c .sample-in-plan .ensures))
 
 pub sample-move-spec : {M : Type 1} → statement M
@@ -56,7 +56,7 @@ sample-move-spec =
     plan-move-requires
     enum-known-answer
     enum-told
-    unsampled-requires
+    plan-refusal-requires
     returns
     samples-in-plan-requires
     returns-2

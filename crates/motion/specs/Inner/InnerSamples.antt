@@ -3,8 +3,8 @@ use mathlib.Core.List.{List, _∷_}
 use mathlib.Core.Path.{_≡_}
 use Prim.Native.Nat.{ℕ}
 use lib.IntN.{ℤ}
-use Rattle.profile.specs.Inner.Widths.{snapBy}
+use Rattle.profile.specs.Inner.Widths.{switchedBy}
 
--- The inner profile has at k′ with u′ and v′ the snap that the profile of width w around it has at k with u and v.
-pub record SameSnap (w : ℕ) (u v : ℤ) (k : ℕ) (u′ v′ : ℤ) (k′ : ℕ) : Type 0 where
-  pub same : (a : ℕ) (ws : List ℕ) → snapBy a (w ∷ ws) u v k ≡ snapBy a ws u′ v′ k′
+-- The inner profile has at k′ with u′ and v′ the value that the profile of width w around it has at k with u and v.
+pub record SameValue (w : ℕ) (u v : ℤ) (k : ℕ) (u′ v′ : ℤ) (k′ : ℕ) : Type 0 where
+  pub same : (a : ℕ) (ws : List ℕ) → switchedBy a (w ∷ ws) u v k ≡ switchedBy a ws u′ v′ k′

@@ -10,13 +10,17 @@ use Rattle.planner.specs.Intervals.{Intervals, N, P}
 use Rattle.planner.specs.Result.{Result, refused, given, Check, check, firstRefusal}
 use Rattle.planner.specs.Outcome.{mostSamples, intervalsIn}
 use Rattle.planner.specs.Inner.Facts.{Ordered}
+use Rattle.planner.specs.Third.{ThirdIntervals, N₃, P₃, thirdIntervalsIn}
+use Rattle.planner.specs.Inner.ThirdFacts.{ThirdOrdered}
 use Rattle.planner.specs.declared.Plan.{Plan}
-use Rattle.motion.specs.Sampling.{valuesAt, sampleOf, Rounding}
+use Rattle.planner.specs.declared.ThirdPlan.{ThirdPlan}
+use Rattle.motion.specs.Sampling.{Values, valuesAt, thirdValuesAt, sampleOf, Rounding}
 use Rattle.motion.specs.Tables.{rowsFrom, tableOf}
 use Rattle.motion.specs.ForceRows.Machine.{Machine, machineAsRead}
 use Rattle.motion.specs.ForceRows.Doubled.{Doubled, doubledValues}
 use Rattle.motion.specs.ForceRows.Force.{forceRow}
 use Rattle.motion.specs.declared.Sample.{Sample}
+use Rattle.motion.specs.declared.state.State.{State}
 
 -- The planner's refusal is passed on.
 pub record PassedOn {R A B : Type 0} (o : Result R A) (p : Result R B) : Type 0 where
@@ -35,6 +39,21 @@ pub record WithinRange (t : Intervals) (D : ℕ) : Type 0 where
   pub reach : D * P t ≤ 2 ^ 60
   pub speed : D * (t .a * t .b * t .c) ≤ 2 ^ 50
 
+pub record ThirdWithinRange (t : ThirdIntervals) (D : ℕ) : Type 0 where
+  pub ordered : ThirdOrdered t
+  pub samples : N₃ t ≤ mostSamples
+  pub reach : D * P₃ t ≤ 2 ^ 60
+
+-- The five values v, with a rounding of their position.
+pub record IsSampleOf (v : Values) (r : Sample) : Type 0 where
+  pub rounding : Rounding (v .position)
+  pub sample-is : r ≡ sampleOf v rounding
+
+-- What a snap and a state stand for.
+abbrev pub valuesIn : (snap : ℤ) → State → Values
+valuesIn snap s =
+    record { snap = snap; jerk = s .jerk; acceleration = s .acceleration; velocity = s .velocity; position = s .position }
+
 module _ (X : ℤ) (t : Intervals) (D : ℕ) where
   -- The snap as a function of the sample.
   abbrev pub directedSnap : ℕ → ℤ
@@ -44,9 +63,8 @@ module _ (X : ℤ) (t : Intervals) (D : ℕ) where
   directedPosition k = valuesAt X t D k .position
 
   -- The five values at sample k, and the position rounded.
-  pub record IsSample (k : ℕ) (r : Sample) : Type 0 where
-    pub rounding : Rounding (valuesAt X t D k .position)
-    pub sample-is : r ≡ sampleOf (valuesAt X t D k) rounding
+  abbrev pub IsSample : (k : ℕ) (r : Sample) → Type 0
+  IsSample k r = IsSampleOf (valuesAt X t D k) r
 
   -- The doubled numbers of a plan's rows.
   abbrev pub plannedNumbers : ℕ → Doubled ℤ
@@ -63,6 +81,20 @@ pub record RowsIn {A : Type 0} (rows : ℕ) (row : ℕ → A) (old new : List A)
 pub record WritesRows {A : Type 0} (own : List (Check ℕ)) (rows : ℕ) (row : ℕ → A) (old : List A) (o : Result ℕ ℕ) (new : List A) : Type 0 where
   pub outcome-is : o ≡ firstRefusal (check 8 (ltb (length old) rows) ∷ own) (given rows)
   pub table-is : new ≡ tableOf o (rowsFrom row 0 rows) old
+
+-- The same of a third-order plan.
+abbrev pub ThirdPlanInRange : ThirdPlan → Type 0
+ThirdPlanInRange x = ThirdWithinRange (thirdIntervalsIn x) (x .jerk)
+
+abbrev pub thirdSamplesIn : ThirdPlan → ℕ
+thirdSamplesIn x = N₃ (thirdIntervalsIn x)
+
+abbrev pub thirdValuesIn : ℤ → ThirdPlan → ℕ → Values
+thirdValuesIn X x = thirdValuesAt X (thirdIntervalsIn x) (x .jerk)
+
+-- The widths around b, and the jerk by them.
+abbrev pub thirdWidthsOf : ThirdIntervals → List ℕ
+thirdWidthsOf t = t .e ∷ t .c ∷ []
 
 -- The same of a plan as the code has it.
 abbrev pub PlanInRange : Plan → Type 0

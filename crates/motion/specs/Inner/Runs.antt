@@ -2,13 +2,13 @@
 use mathlib.Core.List.{List, [], _∷_}
 use mathlib.Core.Path.{_≡_, refl}
 use Prim.Native.Nat.{ℕ, _+_, _≤_}
-use lib.IntN.{ℤ}
+use lib.IntN.{ℤ, pos}
 use lib.ListN.{length, set}
 use Rattle.motion.specs.declared.state.State.{State}
-use Rattle.motion.specs.Inner.Steps.{stepped, StepFits}
+use Rattle.motion.specs.Inner.Steps.{stepped, StepFits, Sums, withJerk, summed}
 
--- How a table with elements A is written: from what is carried along, S, the step over a snap, the row that is stored before it, the
--- row's place, and when the step can be made.
+-- How a table with elements A is written: from what is carried along, S, the step over a snap (in the third order, over a jerk), the row
+-- that is stored before it, the row's place, and when the step can be made.
 pub record Writer (S A : Type 0) : Type 1 where
   pub step : S → ℤ → S
   pub row : S → A
@@ -21,8 +21,19 @@ abbrev pub positionWriter : Writer State ℤ
 positionWriter =
     record { step = stepped; row = λ s. s .position; place = λ s. s .sample; Fits = StepFits; next-place = λ s x. refl }
 
+-- The same in the third order.
+abbrev pub thirdWriter : Writer Sums ℤ
+thirdWriter =
+    record {
+      step = summed;
+      row = λ s. s .position;
+      place = λ s. s .sample;
+      Fits = λ s x. StepFits (withJerk s x) (pos 0);
+      next-place = λ s x. refl;
+    }
+
 module _ {S A : Type 0} (w : Writer S A) where
-  -- What is carried along after a step for each snap of the list.
+  -- What is carried along after a step for each value of the list.
   unfoldable pub after : List ℤ → S → S
   after [] s = s
   after (x ∷ xs) s = after xs (w .step s x)

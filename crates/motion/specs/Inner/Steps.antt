@@ -32,6 +32,34 @@ abbrev pub stateAt : (ℕ → ℤ) → ℕ → State
 stateAt f k =
     record { sample = k; jerk = sums 1 f k; acceleration = sums 2 f k; velocity = sums 3 f k; position = sums 4 f k }
 
+-- The sums without the jerk, which the third order sets and does not sum.
+pub record Sums : Type 0 where
+  pub sample : ℕ
+  pub acceleration : ℤ
+  pub velocity : ℤ
+  pub position : ℤ
+
+abbrev pub sumsIn : State → Sums
+sumsIn s = record { sample = s .sample; acceleration = s .acceleration; velocity = s .velocity; position = s .position }
+
+-- The state with this jerk, and the sums after a step from it.
+abbrev pub withJerk : Sums → (jerk : ℤ) → State
+withJerk s jerk =
+    record { sample = s .sample; jerk = jerk; acceleration = s .acceleration; velocity = s .velocity; position = s .position }
+
+abbrev pub summed : Sums → (jerk : ℤ) → Sums
+summed s jerk = sumsIn (stepped (withJerk s jerk) (pos 0))
+
+-- The sums at sample k where the jerk is f.
+abbrev pub sumsAt : (ℕ → ℤ) → ℕ → Sums
+sumsAt f k = record { sample = k; acceleration = sums 1 f k; velocity = sums 2 f k; position = sums 3 f k }
+
+abbrev pub thirdStateAt : (ℕ → ℤ) → ℕ → State
+thirdStateAt f k = withJerk (sumsAt f k) (f k)
+
 -- Each step to sample k.
 pub record StepsFitBy (f : ℕ → ℤ) (k : ℕ) : Type 0 where
   pub step-fits : (i : ℕ) → i < k → StepFits (stateAt f i) (f i)
+
+pub record ThirdStepsFitBy (f : ℕ → ℤ) (k : ℕ) : Type 0 where
+  pub step-fits : (i : ℕ) → i < k → StepFits (thirdStateAt f i) (pos 0)

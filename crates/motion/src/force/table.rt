@@ -33,7 +33,7 @@ fn fill_rows(table: &mut [f64], displacement: i64, plan: Plan, machine: Machine)
     let mut i = 0u64;
     while i < 16 {
         let segment = segment_at(durations, levels, i);
-        current = store_rows(table, segment.samples, segment.snap, feedforward, current);
+        current = store_rows(table, segment.samples, segment.level, feedforward, current);
         i += 1;
     }
 }

@@ -25,7 +25,7 @@ fn fill_table(table: &mut [i64], displacement: i64, plan: Plan)
     let mut i = 0u64;
     while i < 16 {
         let segment = segment_at(durations, levels, i);
-        state = store_segment(table, segment.samples, segment.snap, state);
+        state = store_segment(table, segment.samples, segment.level, state);
         i += 1;
     }
 }

@@ -1,16 +1,18 @@
 -- A plan whose D is still to be found: all of W is short. And what the private functions answer of it.
-use mathlib.Core.List.{[], _∷_}
+use mathlib.Core.List.{[], _∷_, _++_}
 use Prim.Native.Nat.{ℕ, _≤_}
 use lib.Dec.{ltb}
 use lib.IntN.{ℤ}
 use Rattle.planner.specs.Intervals.{Intervals, N, intervalsBy}
 use Rattle.planner.specs.Result.{Result, refused, given, check, firstRefusal}
-use Rattle.planner.specs.Outcome.{mostSamples, boundChecks, checks, distanceOf, intervalsOf, intervalsIn, number}
+use Rattle.planner.specs.Outcome.{mostSamples, displacementChecks, boundChecks, checks, distanceOf, intervalsOf, intervalsIn, number}
 use Rattle.planner.specs.Inner.Facts.{Ordered}
 use Rattle.planner.specs.declared.Move.{Move}
 use Rattle.planner.specs.declared.Plan.{Plan}
 use Rattle.planner.specs.declared.bounds.BoundsAnswer.{BoundsAnswer}
 use Rattle.planner.specs.declared.bounds.BoundsAnswer.the-variants.{InRange, Refused}
+use Rattle.planner.specs.declared.figures.FiguresAnswer.{FiguresAnswer}
+use Rattle.planner.specs.declared.figures.FiguresAnswer.the-variants.{InRange as Measured, Refused as Unmeasured}
 
 abbrev pub undivided : (W : ℕ) (t : Intervals) → Plan
 undivided W t = record { a = t .a; b = t .b; c = t .c; e = t .e; snap = 0; shortfall = W }
@@ -32,6 +34,16 @@ unfoldable pub undividedWithin : (W V₀ A₀ J₀ S₀ : ℕ) → Result ℕ Pl
 undividedWithin W V₀ A₀ J₀ S₀ =
     let t = intervalsBy W V₀ A₀ J₀ S₀ in
     firstRefusal (check 7 (ltb mostSamples (N t)) ∷ []) (given (undivided W t))
+
+-- The distance of a move in range, or its refusal.
+abbrev pub figuresOutcome : FiguresAnswer → Result ℕ ℕ
+figuresOutcome (Measured x) = given x
+figuresOutcome (Unmeasured x) = refused (number x)
+
+unfoldable pub figuresResult : Move → Result ℕ ℕ
+figuresResult m =
+    firstRefusal (displacementChecks (m .displacement) ++ boundChecks (m .velocity) (m .acceleration) (m .jerk) (m .snap))
+    (given (distanceOf m))
 
 abbrev pub boundsOutcome : BoundsAnswer → Result ℕ (Unit {0})
 boundsOutcome InRange = given tt

@@ -1,5 +1,5 @@
--- The profile over a list of interval widths, the outermost first, around an innermost interval of a samples. The paper's
--- fourth order is e ∷ c ∷ b ∷ [] around a. No rule of the paper stands here; the laws are stated over it.
+-- The profile over a list of interval widths, the outermost first, around an innermost interval of a samples. The fourth order is
+-- e ∷ c ∷ b ∷ [] around a, and the third e ∷ c ∷ [] around b. No rule of the paper stands here; the laws are stated over it.
 use mathlib.Core.Bool.{cond}
 use mathlib.Core.List.{List, [], _∷_, _++_}
 use Prim.Native.Nat.{ℕ, zero, suc, _+_, _-_, _*_, _≤_, min}
@@ -7,9 +7,9 @@ use lib.Dec.{ltb}
 use lib.IntN.{ℤ, pos, negℤ}
 use Rattle.profile.specs.Profile.{Sign, positive, none, negative, Segment, segment, level}
 
--- The snap of size D in a segment of this sign.
-abbrev pub snapWith : Sign → ℕ → ℤ
-snapWith sign D = level sign (pos D) (negℤ (pos D))
+-- The value of size D in a segment of this sign.
+abbrev pub switchedWith : Sign → ℕ → ℤ
+switchedWith sign D = level sign (pos D) (negℤ (pos D))
 
 -- The samples that all intervals take: the paper's N.
 unfoldable pub span : ℕ → List ℕ → ℕ
@@ -40,17 +40,17 @@ unfoldable pub switched : ℕ → List ℕ → List Segment
 switched a [] = segment a positive ∷ []
 switched a (w ∷ ws) = switched a ws ++ (segment (w - span a ws) none ∷ withOppositeSigns (switched a ws))
 
--- The snap at k by the widths: u in segments with +, v in those with −, and they change places from w on.
-unfoldable pub snapBy : ℕ → List ℕ → (u v : ℤ) → ℕ → ℤ
-snapBy a [] u v k = cond (ltb k a) u (pos 0)
-snapBy a (w ∷ ws) u v k = cond (ltb k w) (snapBy a ws u v k) (snapBy a ws v u (k - w))
+-- The switched value at k by the widths: u in segments with +, v in those with −, and they change places from w on.
+unfoldable pub switchedBy : ℕ → List ℕ → (u v : ℤ) → ℕ → ℤ
+switchedBy a [] u v k = cond (ltb k a) u (pos 0)
+switchedBy a (w ∷ ws) u v k = cond (ltb k w) (switchedBy a ws u v k) (switchedBy a ws v u (k - w))
 
 -- The sum of the first k values of f.
 unfoldable pub total : (ℕ → ℕ) → ℕ → ℕ
 total f zero = 0
 total f (suc k) = total f k + f k
 
--- The position of the profile at sample k for a snap of size 1: it rises from 0 to the product of all intervals. Each width w turns
+-- The position of the profile at sample k for size 1: it rises from 0 to the product of all intervals. Each width w turns
 -- it into its sum over the last w samples.
 unfoldable pub ramp : ℕ → List ℕ → ℕ → ℕ
 ramp a [] k = min k a

@@ -4,7 +4,7 @@ use super::contest::{Contest, Timed};
 use super::inputs::{moves_of, planned_mix};
 use super::{agree, Section};
 use crate::library::{self, Axes};
-use reference::planner::{plan, Move, MOST_AXES};
+use reference::planner::{plan, Move, Order, MOST_AXES};
 use reference::request::Request;
 
 /// A set takes at most the time of eight moves and a half.
@@ -82,7 +82,7 @@ fn sampled(what: String, moves: Vec<Move>) -> Result<Box<dyn Timed>, String> {
 /// The sample in the middle. By itself a shorter axis may have ended before it: one
 /// of the longest stands in its place.
 fn middle(axes: Axes) -> Ask {
-    let n = |motion: &Move| plan(motion).samples();
+    let n = |motion: &Move| plan(Order::Fourth, motion).samples();
     let longest = axes.moves.into_iter().max_by_key(n);
     let longest = longest.expect("eight moves");
     let alike = axes.moves.map(|motion| match n(&motion) == n(&longest) {

@@ -1,7 +1,7 @@
 //! The moves that are timed. They are the same in every run.
 
 use reference::draw::{moves, Random};
-use reference::planner::{plan, Move};
+use reference::planner::{plan, Move, Order};
 
 /// How many moves a mix has.
 pub const MIX: usize = 512;
@@ -16,7 +16,7 @@ pub fn planned_mix() -> Vec<Move> {
 
 /// Moves as they come, edges and refusals among them.
 pub fn whole_mix() -> Vec<Move> {
-    mix(moves::any)
+    mix(|random| moves::any(Order::Fourth, random))
 }
 
 fn mix(draw: fn(&mut Random) -> Move) -> Vec<Move> {
@@ -34,16 +34,34 @@ const SHAPES: [[u64; 3]; 6] = [
     [3, 1, 12],
 ];
 
-/// Moves that take exactly `n` samples, 8 or more, in both directions.
+/// A move of this shape that takes exactly `n` samples, 8 or more, if there is one.
+fn of_shape(order: Order, n: u64, shape: [u64; 3]) -> Option<Move> {
+    let motion = moves::of_samples(order, n, shape);
+    (plan(order, &motion).samples() == Some(n)).then_some(motion)
+}
+
+/// All such moves, in both directions.
 pub fn moves_of(n: u64) -> Vec<Move> {
     let mut list = Vec::new();
-    for shape in SHAPES {
-        let motion = moves::of_samples(n, shape);
-        if plan(&motion).samples() == Some(n) && !list.contains(&motion) {
+    let of_shape = |shape| of_shape(Order::Fourth, n, shape);
+    for motion in SHAPES.into_iter().filter_map(of_shape) {
+        if !list.contains(&motion) {
             list.extend([motion, opposite(&motion)]);
         }
     }
     list
+}
+
+/// Such moves, and beside each one of its shape that takes as many in third order.
+pub fn pairs_of(n: u64) -> Vec<[Move; 2]> {
+    let pair = |shape| {
+        let [fourth, third] = [Order::Fourth, Order::Third].map(|order| of_shape(order, n, shape));
+        Some([fourth?, third?])
+    };
+    let pairs = SHAPES.into_iter().filter_map(pair);
+    pairs
+        .flat_map(|pair| [pair, pair.map(|motion| opposite(&motion))])
+        .collect()
 }
 
 fn opposite(motion: &Move) -> Move {

@@ -54,7 +54,7 @@ fn cells(line: &Line) -> [String; 9] {
         format!("{ratio:.2}"),
         quartiles.join(" "),
         a_sample.unwrap_or_default(),
-        line.aim.map(|aim| format!("{aim:.1}")).unwrap_or_default(),
+        line.aim.map(|aim| format!("{aim:?}")).unwrap_or_default(),
         met.unwrap_or_default().into(),
     ]
 }

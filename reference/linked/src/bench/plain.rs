@@ -12,7 +12,7 @@ pub use forces::forces;
 pub use narrow::plan_narrow;
 pub use positions::positions;
 
-use reference::planner::{durations, Answer, Move};
+use reference::planner::{durations, Answer, Move, Order};
 use reference::profile::{segments, Segment, SEGMENT_COUNT};
 
 /// What the rows are made of.
@@ -32,7 +32,7 @@ fn planned(motion: &Move, places: usize, more: u64) -> Result<Plan, u8> {
     if (places as u64) < rows {
         return Err(8);
     }
-    let snap = plan.snap as i64 * motion.displacement.signum();
-    let segments = segments(durations(plan.intervals), snap);
+    let snap = plan.switched as i64 * motion.displacement.signum();
+    let segments = segments(Order::Fourth, durations(plan.intervals), snap);
     Ok(Plan { segments, rows })
 }

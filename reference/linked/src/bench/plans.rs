@@ -5,6 +5,7 @@ use super::inputs::{planned_mix, whole_mix};
 use super::plain::plan_narrow;
 use super::{agree, same, Section};
 use crate::library;
+use reference::planner::Order::Fourth;
 use reference::planner::{plan, Answer, Move};
 use reference::request::Request;
 
@@ -21,8 +22,8 @@ pub fn section() -> Result<Section, String> {
 
 fn mix(kind: &str, moves: Vec<Move>) -> Result<Box<dyn Timed>, String> {
     for motion in &moves {
-        agree(&Request::Plan(*motion))?;
-        same("plan", plan(motion), plan_narrow(motion))?;
+        agree(&Request::Plan(Fourth, *motion))?;
+        same("plan", plan(Fourth, motion), plan_narrow(motion))?;
     }
     let what = format!("{} {kind}", moves.len());
     let contest = Contest::new(what, None, moves, Box::new(()))
@@ -35,7 +36,7 @@ fn mix(kind: &str, moves: Vec<Move>) -> Result<Box<dyn Timed>, String> {
 // Never inlined, as the archive cannot be.
 #[inline(never)]
 fn wide(motion: &Move) -> Answer {
-    plan(motion)
+    plan(Fourth, motion)
 }
 
 #[inline(never)]

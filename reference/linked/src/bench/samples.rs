@@ -4,7 +4,7 @@ use super::contest::{Contest, Timed};
 use super::inputs::moves_of;
 use super::{agree, Section};
 use crate::library;
-use reference::planner::Move;
+use reference::planner::{Move, Order::Fourth};
 use reference::profile::{sample, SampleAnswer};
 use reference::request::Request;
 
@@ -25,7 +25,7 @@ pub fn section() -> Result<Section, String> {
 fn at(n: u64, k: u64) -> Result<Box<dyn Timed>, String> {
     let asks: Vec<Ask> = moves_of(n).into_iter().map(|motion| (motion, k)).collect();
     for (motion, k) in &asks {
-        agree(&Request::Sample(*motion, *k))?;
+        agree(&Request::Sample(Fourth, *motion, *k))?;
     }
     let what = format!("sample {k} of {n}");
     let contest = Contest::new(what, Some(k), asks, Box::new(()))
@@ -38,5 +38,5 @@ fn at(n: u64, k: u64) -> Result<Box<dyn Timed>, String> {
 
 #[inline(never)]
 fn summed(motion: &Move, k: u64) -> SampleAnswer {
-    sample(motion, k)
+    sample(Fourth, motion, k)
 }

@@ -4,7 +4,7 @@ use super::contest::{Contest, Timed};
 use super::inputs::moves_of;
 use super::{agree, plain, same, Section, PLACES, SAMPLES};
 use crate::library::{self, TableResult};
-use reference::planner::Move;
+use reference::planner::{Move, Order::Fourth};
 use reference::profile::{position_table, reference_table, TableAnswer};
 use reference::request::Request;
 
@@ -14,7 +14,7 @@ const AIM: Option<f64> = Some(1.0);
 type Table = [i64];
 
 /// A filling entry of the archive, called directly.
-trait Entry: Fn(library::Move, &mut Table) -> TableResult + Copy + 'static {}
+pub trait Entry: Fn(library::Move, &mut Table) -> TableResult + Copy + 'static {}
 impl<T: Fn(library::Move, &mut Table) -> TableResult + Copy + 'static> Entry for T {}
 
 pub fn positions() -> Result<Section, String> {
@@ -46,8 +46,8 @@ pub fn references() -> Result<Section, String> {
 fn contest(n: u64, entry: impl Entry) -> Result<Contest<Move, Table>, String> {
     let moves = moves_of(n);
     for motion in &moves {
-        agree(&Request::Positions(*motion, PLACES as u64))?;
-        agree(&Request::Reference(*motion, PLACES as u64))?;
+        agree(&Request::Positions(Fourth, *motion, PLACES as u64))?;
+        agree(&Request::Reference(Fourth, *motion, PLACES as u64))?;
         rivals_agree(motion)?;
     }
     let table = vec![0; PLACES].into_boxed_slice();
@@ -59,8 +59,7 @@ fn contest(n: u64, entry: impl Entry) -> Result<Contest<Move, Table>, String> {
 }
 
 fn rivals_agree(motion: &Move) -> Result<(), String> {
-    let fills: [fn(&Move, &mut [i64]) -> TableAnswer; 3] =
-        [position_table, reference_table, plain::positions];
+    let fills: [fn(&Move, &mut [i64]) -> TableAnswer; 3] = [wide, iterated, plain::positions];
     let [first, others @ ..] = fills.map(|fill| {
         let mut table = vec![-1; PLACES];
         (fill(motion, &mut table), table)
@@ -72,10 +71,10 @@ fn rivals_agree(motion: &Move) -> Result<(), String> {
 
 #[inline(never)]
 fn wide(motion: &Move, table: &mut [i64]) -> TableAnswer {
-    position_table(motion, table)
+    position_table(Fourth, motion, table)
 }
 
 #[inline(never)]
 fn iterated(motion: &Move, table: &mut [i64]) -> TableAnswer {
-    reference_table(motion, table)
+    reference_table(Fourth, motion, table)
 }

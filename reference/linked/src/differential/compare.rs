@@ -4,6 +4,7 @@
 use super::entries::Entries;
 use super::lent::{Lent, Place};
 use crate::library::{TableResult, REPORT_BYTES};
+use reference::planner::Order::{Fourth, Third};
 use reference::request::{Outcome, Request};
 use std::fmt::Display;
 
@@ -14,13 +15,22 @@ const BEHIND: &[u8] = b"\n1\n1 1\n";
 /// Makes the call and says what differs.
 pub fn misfit(entries: &dyn Entries, request: &Request, wanted: &Outcome) -> Option<String> {
     match request {
-        Request::Plan(motion) => fields(entries.plan_move(*motion).fields(), wanted),
-        Request::Sample(motion, k) => fields(entries.sample_move(*motion, *k).fields(), wanted),
-        Request::Positions(motion, places) => table(*places, wanted, |lent| {
-            entries.fill_positions(*motion, lent)
+        Request::Plan(Fourth, motion) => fields(entries.plan_move(*motion).fields(), wanted),
+        Request::Plan(Third, motion) => fields(entries.plan_third(*motion).fields(), wanted),
+        Request::Sample(order, motion, k) => {
+            let given = match order {
+                Fourth => entries.sample_move(*motion, *k),
+                Third => entries.sample_third(*motion, *k),
+            };
+            fields(given.fields(), wanted)
+        }
+        Request::Positions(order, motion, places) => table(*places, wanted, |lent| match order {
+            Fourth => entries.fill_positions(*motion, lent),
+            Third => entries.fill_positions_third(*motion, lent),
         }),
-        Request::Reference(motion, places) => table(*places, wanted, |lent| {
-            entries.fill_reference(*motion, lent)
+        Request::Reference(order, motion, places) => table(*places, wanted, |lent| match order {
+            Fourth => entries.fill_reference(*motion, lent),
+            Third => entries.fill_reference_third(*motion, lent),
         }),
         Request::Force(motion, machine, places) => table(*places, wanted, |lent| {
             entries.fill_force(*motion, *machine, lent)

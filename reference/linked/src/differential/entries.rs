@@ -2,7 +2,7 @@
 
 use super::lent::Lent;
 use crate::library::{self, Axes, AxesPlanResult, AxesSampleResult, Machine, Move};
-use crate::library::{PlanResult, SampleResult, SheetResult, TableResult};
+use crate::library::{PlanResult, SampleResult, SheetResult, TableResult, ThirdPlanResult};
 
 /// The published entries; a test overrides one of them with a wrong one.
 ///
@@ -43,6 +43,22 @@ pub trait Entries {
 
     fn sample_axes(&self, axes: Axes, sample: u64) -> AxesSampleResult {
         library::sample_axes(axes, sample)
+    }
+
+    fn plan_third(&self, motion: Move) -> ThirdPlanResult {
+        library::plan_third(motion)
+    }
+
+    fn sample_third(&self, motion: Move, sample: u64) -> SampleResult {
+        library::sample_third(motion, sample)
+    }
+
+    fn fill_positions_third(&self, motion: Move, table: &mut Lent<i64>) -> TableResult {
+        library::fill_positions_third(motion, table.places())
+    }
+
+    fn fill_reference_third(&self, motion: Move, table: &mut Lent<i64>) -> TableResult {
+        library::fill_reference_third(motion, table.places())
     }
 }
 

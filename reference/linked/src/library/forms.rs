@@ -1,7 +1,7 @@
 //! Each answer as a list of all its fields, in the order of
 //! `reference::request::Outcome`.
 
-use super::layout::{AxesPlanResult, AxesSampleResult};
+use super::layout::{AxesPlanResult, AxesSampleResult, ThirdPlanResult};
 use super::layout::{PlanResult, SampleResult, SheetResult, TableResult};
 use reference::planner::Plan;
 use reference::profile::Sample;
@@ -10,6 +10,22 @@ impl PlanResult {
     pub fn fields(&self) -> Vec<i128> {
         let head = [self.refusal, self.samples].into_iter();
         head.chain(self.plan.numbers()).map(i128::from).collect()
+    }
+}
+
+impl ThirdPlanResult {
+    pub fn fields(&self) -> Vec<i128> {
+        let [b, c, e] = self.intervals;
+        let numbers = [
+            self.refusal,
+            self.samples,
+            b,
+            c,
+            e,
+            self.jerk,
+            self.shortfall,
+        ];
+        numbers.map(i128::from).to_vec()
     }
 }
 

@@ -76,3 +76,13 @@ pub struct AxesSampleResult {
     pub place: u64,
     pub values: [Sample; MOST_AXES],
 }
+
+#[repr(C)]
+#[derive(Clone, Copy, Debug, PartialEq, Eq)]
+pub struct ThirdPlanResult {
+    pub refusal: u64,
+    pub samples: u64,
+    pub intervals: [u64; 3],
+    pub jerk: u64,
+    pub shortfall: u64,
+}

@@ -2,6 +2,7 @@ use super::assert_found;
 use linked::differential::{Entries, Lent, Proved};
 use linked::library::{Machine, Move, TableResult};
 use reference::force::{write_rows, Coefficients, Drive};
+use reference::planner::Order;
 use reference::profile::Profile;
 
 /// The last row with its last bit changed.
@@ -48,7 +49,7 @@ struct MinusZeroKept;
 impl Entries for MinusZeroKept {
     fn fill_force(&self, motion: Move, machine: Machine, table: &mut Lent<f64>) -> TableResult {
         let result = Proved.fill_force(motion, machine, table);
-        if let (0, Ok(profile)) = (result.refusal, Profile::of(&motion)) {
+        if let (0, Ok(profile)) = (result.refusal, Profile::of(Order::Fourth, &motion)) {
             let rows = &mut table.places()[..result.rows as usize];
             let (q, drive) = (Coefficients::of(&machine), Drive::of(&machine));
             write_rows(&profile, &q, drive, rows);

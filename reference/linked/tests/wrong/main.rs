@@ -6,6 +6,7 @@ mod plan;
 mod samples;
 mod sheets;
 mod tables;
+mod third;
 
 use linked::differential::{run, Entries};
 

@@ -8,7 +8,7 @@ struct SnapOneMore;
 impl Entries for SnapOneMore {
     fn plan_move(&self, motion: Move) -> PlanResult {
         let mut result = Proved.plan_move(motion);
-        result.plan.snap += u64::from(result.plan.shortfall > 0);
+        result.plan.switched += u64::from(result.plan.shortfall > 0);
         result
     }
 }

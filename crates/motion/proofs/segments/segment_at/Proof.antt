@@ -3,7 +3,7 @@ use mathlib.Core.Path.{_≡_, sym, subst}
 use mir.Syntax.{w64}
 use mir.Val.{toZ, ofZ}
 use mir.Facts.{toZ-ofZ}
-use Rattle.motion.specs.Inner.SegmentSnaps.{NextSegment}
+use Rattle.motion.specs.Inner.SegmentLists.{segmentsOf, SegmentAt}
 use Rattle.motion.proofs.SegmentLaws.{others, with-plus, with-minus, lasting-q, lasting-r, lasting-s, lasting-trailing}
 use Rattle.motion.proofs.segments.segment_at.Statement.{statement}
 use Rattle.motion.proofs.segments.segment_at.Tie as tie
@@ -18,13 +18,13 @@ negative c = toZ-ofZ {w = w64} {z = c .before .before .args .levels .negative} (
 returns : tie.Need-returns
 returns c =
     let a = c .before .before .args in
-    subst (λ x. NextSegment (a .d) (a .levels) (a .i) (record { samples = a .d .p; snap = x })) (sym (positive c))
+    subst (λ x. SegmentAt (segmentsOf (a .d)) (a .levels) (a .i) (record { samples = a .d .p; level = x })) (sym (positive c))
     (with-plus _ _ _ (c .before .match .keys1))
 
 returns-2 : tie.Need-returns-2
 returns-2 c =
     let a = c .before .before .args in
-    subst (λ x. NextSegment (a .d) (a .levels) (a .i) (record { samples = a .d .p; snap = x })) (sym (negative c))
+    subst (λ x. SegmentAt (segmentsOf (a .d)) (a .levels) (a .i) (record { samples = a .d .p; level = x })) (sym (negative c))
     (with-minus _ _ _ (c .before .match .keys2))
 
 returns-3 : tie.Need-returns-3

@@ -4,7 +4,7 @@ use Prim.Native.Nat.{_-_}
 use mir.Syntax.{w64}
 use mir.Val.{toZ, ofZ}
 use mir.Facts.{toZ-ofZ}
-use Rattle.motion.specs.Inner.InnerSamples.{SameSnap}
+use Rattle.motion.specs.Inner.InnerSamples.{SameValue}
 use Rattle.motion.proofs.InnerSampleLaws.{before, past}
 use Rattle.motion.proofs.snap.inner_sample.Statement.{statement}
 use Rattle.motion.proofs.snap.inner_sample.Tie as tie
@@ -29,9 +29,9 @@ returns-2 : tie.Need-returns-2
 returns-2 c =
     let a = c .before .before .before .before .args in
     let k = a .outer .sample - a .width in
-    subst (λ x. SameSnap (a .width) (a .outer .positive) (a .outer .negative) (a .outer .sample) x (toZ w64 (ofZ w64 (a .outer .positive))) k)
+    subst (λ x. SameValue (a .width) (a .outer .positive) (a .outer .negative) (a .outer .sample) x (toZ w64 (ofZ w64 (a .outer .positive))) k)
     (sym (negative c))
-    (subst (λ x. SameSnap (a .width) (a .outer .positive) (a .outer .negative) (a .outer .sample) (a .outer .negative) x k) (sym (positive c))
+    (subst (λ x. SameValue (a .width) (a .outer .positive) (a .outer .negative) (a .outer .sample) (a .outer .negative) x k) (sym (positive c))
     (past _ _ _ _ (c .before .before .if1 .left)))
 
 pub inner-sample-spec : {M : Type 1} → statement M

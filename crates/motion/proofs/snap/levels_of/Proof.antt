@@ -24,8 +24,8 @@ module _ (n : ℕ) (h : n ≤ 2 ^ 60) where
   read-taken : toZ w64 (ofZ w64 (pos 0 -ℤ toZ w64 n)) ≡ negℤ (pos n)
   read-taken = toZ-ofZ taken-fits ∙ negated n (omega arith)
 
-cast-snap : tie.Need-cast-snap
-cast-snap c = search needs
+cast-level : tie.Need-cast-level
+cast-level c = search needs
 
 sub-t5 : tie.Need-sub-t5
 sub-t5 c = taken-fits (c .before .args .size) (c .before .pre)
@@ -46,4 +46,4 @@ returns-2 c =
     record { positive-is = read n (c .before .pre) ∙ sym t; negative-is = read-taken n (c .before .pre) ∙ sym (ap negℤ t) }
 
 pub levels-of-spec : {M : Type 1} → statement M
-levels-of-spec = tie.close (tie.spec cast-snap sub-t5 returns sub-t6 returns-2)
+levels-of-spec = tie.close (tie.spec cast-level sub-t5 returns sub-t6 returns-2)

@@ -1,6 +1,6 @@
 -- `sample_in_plan` meets its contract: the levels are those of the direction, so the sums are the profile's values.
 use borrow.Author.Needs.{needs}
-use mathlib.Core.Path.{_≡_, sym, ap, subst, _∙_}
+use mathlib.Core.Path.{_≡_, sym, ap, ap₂, subst, _∙_}
 use Prim.Native.Nat.{ℕ}
 use native.Mathlib.Omega.{arith}
 use mir.Syntax.{w64}
@@ -9,20 +9,20 @@ use mir.Facts.{toZ-ofZ}
 use lib.IntN.{ℤ}
 use Rattle.planner.specs.declared.Plan.{Plan}
 use Rattle.planner.specs.Outcome.{intervalsIn}
-use Rattle.profile.specs.Inner.Widths.{snapBy}
+use Rattle.profile.specs.Inner.Widths.{switchedBy}
 use Rattle.motion.specs.declared.snap.Levels.{Levels}
 use Rattle.motion.specs.declared.state.State.{State}
-use Rattle.motion.specs.Sampling.{RoundsTo}
-use Rattle.motion.specs.Inner.Planned.{widthsOf, directedSnap}
+use Rattle.motion.specs.Sampling.{Values}
+use Rattle.motion.specs.Inner.Planned.{widthsOf, directedSnap, valuesIn, IsSampleOf}
 use Rattle.motion.specs.Inner.SnapLevels.{AreLevels}
 use Rattle.motion.specs.Inner.Steps.{StepsFitBy, stateAt}
 use Rattle.motion.proofs.StateLaws.{directed, state-is, step-fits, snap-small}
-use Rattle.motion.proofs.DirectedSnap.{directed-snap}
+use Rattle.motion.proofs.DirectedValue.{directed-snap}
 use Rattle.motion.proofs.sums.sample_in_plan.Statement.{statement}
 use Rattle.motion.proofs.sums.sample_in_plan.Tie as tie
 
 abbrev byWidths : Plan → Levels → ℕ → ℤ
-byWidths plan levels = snapBy (plan .a) (widthsOf (intervalsIn plan)) (levels .positive) (levels .negative)
+byWidths plan levels = switchedBy (plan .a) (widthsOf (intervalsIn plan)) (levels .positive) (levels .negative)
 
 abbrev snapOf : ℤ → Plan → ℕ → ℤ
 snapOf X plan = directedSnap X (intervalsIn plan) (plan .snap)
@@ -49,9 +49,6 @@ sum-to-requires c κs =
     subst (λ (f : ℕ → ℤ). StepsFitBy f (c .before .args .k)) (sym (levels c))
     (record { step-fits = λ i l. step-fits (c .before .args .displacement) _ _ (p .0) i (omega (arith, l, p .1, p .0 .samples)) })
 
-round-to-count-requires : tie.Need-round-to-count-requires
-round-to-count-requires c κs = search needs
-
 snap-at-requires : tie.Need-snap-at-requires
 snap-at-requires c κs = search needs
 
@@ -66,46 +63,23 @@ state c =
 
 snap :
     (c : tie.After-snap-at)
-    → let b = c .before .before .before .before .before in
+    → let b = c .before .before .before in
     c .snap-at .result ≡ snapOf (b .args .displacement) (b .args .plan) (b .args .k)
 snap c =
-    let d = c .before .before .before .before in
+    let d = c .before .before in
     c .snap-at .ensures ∙ ap (λ (f : ℕ → ℤ). f (d .before .args .k)) (levels d)
+
+sample-of-requires : tie.Need-sample-of-requires
+sample-of-requires c κs = search needs
 
 returns : tie.Need-returns
 returns c =
-    let b = c .before .before in
-    let d = b .before .before .before in
-    let g = c .before .struct-told2 .given in
-    let x = d .sum-to .result in
-    let n = b .before .round-to-count in
-    let h = c .struct-told3 .given in
+    let b = c .before in
     let snap-is = toZ-ofZ {w = w64} {z = b .snap-at .result} (record { sfits = b .snap-at .ok }) ∙ snap b in
-    let jerk-is = toZ-ofZ {w = w64} {z = x .jerk} (record { sfits = g .1 .0 .1 }) ∙ ap (λ (s : State). s .jerk) (state d) in
-    let acceleration-is =
-    toZ-ofZ {w = w64} {z = x .acceleration} (record { sfits = g .1 .1 .0 .1 }) ∙ ap (λ (s : State). s .acceleration) (state d) in
-    let velocity-is = toZ-ofZ {w = w64} {z = x .velocity} (record { sfits = g .1 .1 .1 .0 .1 }) ∙ ap (λ (s : State). s .velocity) (state d) in
-    let position-is = toZ-ofZ {w = w64} {z = x .position} (record { sfits = g .1 .1 .1 .1 .0 .1 }) ∙ ap (λ (s : State). s .position) (state d) in
-    let count : ℤ = toZ w64 (ofZ w64 (n .result .count)) in
-    let remainder : ℤ = toZ w64 (ofZ w64 (n .result .remainder)) in
-    let count-is = toZ-ofZ {w = w64} {z = n .result .count} (record { sfits = h .0 .1 }) in
-    let remainder-is = toZ-ofZ {w = w64} {z = n .result .remainder} (record { sfits = h .1 .0 .1 }) in
-    let rounded : RoundsTo (toZ w64 (ofZ w64 (x .position))) count remainder = rw (count-is, remainder-is) (n .ensures) in
-    record {
-      rounding = record { count = count; remainder = remainder; rounded = subst (λ y. RoundsTo y count remainder) position-is rounded };
-      sample-is = λ i.
-          record {
-            snap = snap-is i;
-            jerk = jerk-is i;
-            acceleration = acceleration-is i;
-            velocity = velocity-is i;
-            position = position-is i;
-            count = count;
-            remainder = remainder;
-          };
-    }
+    let values : valuesIn (toZ w64 (ofZ w64 (b .snap-at .result))) (b .before .sum-to .result) ≡ _ = ap₂ valuesIn snap-is (state (b .before)) in
+    subst (λ (v : Values). IsSampleOf v (c .sample-of .result)) values (c .sample-of .ensures)
 
 pub sample-in-plan-spec : {M : Type 1} → statement M
 sample-in-plan-spec =
     tie.close
-    (tie.spec levels-of-requires sum-to-requires round-to-count-requires snap-at-requires returns)
+    (tie.spec levels-of-requires sum-to-requires snap-at-requires sample-of-requires returns)

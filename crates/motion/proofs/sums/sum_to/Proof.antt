@@ -9,7 +9,7 @@ use mir.Facts.{toZ-ofZ}
 use lib.IntN.{ℤ}
 use Rattle.planner.specs.declared.Plan.{Plan}
 use Rattle.planner.specs.Outcome.{intervalsIn}
-use Rattle.profile.specs.Inner.Widths.{snapBy}
+use Rattle.profile.specs.Inner.Widths.{switchedBy}
 use Rattle.motion.specs.Inner.Planned.{widthsOf}
 use Rattle.motion.specs.declared.state.State.{State}
 use Rattle.motion.specs.declared.snap.Levels.{Levels}
@@ -18,7 +18,7 @@ use Rattle.motion.proofs.sums.sum_to.Statement.{statement}
 use Rattle.motion.proofs.sums.sum_to.Tie as tie
 
 abbrev snap : Plan → Levels → ℕ → ℤ
-snap plan levels = snapBy (plan .a) (widthsOf (intervalsIn plan)) (levels .positive) (levels .negative)
+snap plan levels = switchedBy (plan .a) (widthsOf (intervalsIn plan)) (levels .positive) (levels .negative)
 
 abbrev Inv-loop : tie.InvT-loop
 Inv-loop plan levels k state₀ state = (state .sample ≤ k) × On (snap plan levels) state

@@ -5,8 +5,8 @@ use native.Mathlib.Nat.{mod-eq-sub-div-mul}
 use Rattle.planner.proofs.division.divide.Statement.{statement}
 use Rattle.planner.proofs.division.divide.Tie as tie
 
-div-snap : tie.Need-div-snap
-div-snap c = search needs
+div-quotient : tie.Need-div-quotient
+div-quotient c = search needs
 
 rem-shortfall : tie.Need-rem-shortfall
 rem-shortfall c = search needs
@@ -15,4 +15,4 @@ returns : tie.Need-returns
 returns c = (refl, mod-eq-sub-div-mul (c .args .w) (c .args .p))
 
 pub divide-spec : {M : Type 1} → statement M
-divide-spec = tie.close (tie.spec div-snap rem-shortfall returns)
+divide-spec = tie.close (tie.spec div-quotient rem-shortfall returns)

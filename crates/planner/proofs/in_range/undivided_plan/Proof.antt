@@ -1,94 +1,46 @@
--- `undivided_plan` meets its contract: the tests on the way decide the checks of the rule, one after the other.
+-- `undivided_plan` meets its contract: after the figures refusal 7 is left.
 use borrow.Author.Needs.{needs}
 use mathlib.Core.Path.{_≡_, sym, ap, _∙_}
-use Prim.Native.Nat.{ℕ, _*_, _≤_}
-use native.Mathlib.Omega.{arith}
 use mir.Syntax.{w64}
 use mir.Facts.{toZ-ofZ}
-use lib.IntN.{natAbs}
-use Rattle.planner.specs.Quantities.{distance, unitsPerCount}
 use Rattle.planner.specs.Result.{given}
-use Rattle.planner.specs.Outcome.{mostCounts}
-use Rattle.planner.specs.Inner.Undivided.{moveOf, boundsOutcome}
+use Rattle.planner.specs.Inner.Undivided.{moveOf, figuresOutcome, figuresResult}
 use Rattle.planner.specs.declared.Move.{Move}
-use Rattle.planner.proofs.UndividedChecks.{boundsOf, no-displacement, displacement-far, bound-refused, bounds-passed, figures}
+use Rattle.planner.proofs.FiguresChecks.{figures-refused, figures-passed, figures}
 use Rattle.planner.proofs.in_range.undivided_plan.Statement.{statement}
 use Rattle.planner.proofs.in_range.undivided_plan.Tie as tie
 
 -- the move of the arguments
-sent : tie.Start → Move
+abbrev sent : tie.Start → Move
 sent c = let a = c .args in moveOf (a .x) (a .v) (a .acc) (a .j) (a .s)
 
--- the size that was found is the displacement's
-size : (c : tie.After-magnitude) → c .magnitude .result ≡ natAbs (c .before .args .x)
-size c = rw (toZ-ofZ {w = w64} {z = c .before .args .x} (c .before .fits .x)) at (c .magnitude .ensures)
+answered : (c : tie.After-check-figures) → figuresOutcome (c .check-figures .result) ≡ figuresResult (sent (c .before))
+answered c =
+    let a = c .before .args in
+    c .check-figures .ensures
+    ∙ ap (λ X. figuresResult (moveOf X (a .v) (a .acc) (a .j) (a .s))) (toZ-ofZ {w = w64} {z = a .x} (c .before .fits .x))
 
-scaled : (c : tie.After-magnitude) → unitsPerCount * c .magnitude .result ≡ distance (c .before .args .x)
-unfolding distance
-scaled c = ap (λ (x : ℕ). unitsPerCount * x) (size c)
+check-figures-requires : tie.Need-check-figures-requires
+check-figures-requires c κs = search needs
 
-moves : (c : tie.Else1) → natAbs (c .before .before .args .x) ≡ 0 → ⊥
-moves c h = c .if1 .left (size (c .before) ∙ h)
+enum-known-figures : tie.Need-enum-known-figures
+enum-known-figures c = search needs
 
-near : (c : tie.Else2) → natAbs (c .before .before .before .args .x) ≤ mostCounts
-near c = omega (arith, size (c .before .before))
-
-in-range : (c : tie.After-enum-told) → given tt ≡ boundsOf (sent (c .before .before .before .before .before .before))
-unfolding sent
-in-range c = ap boundsOutcome (sym (c .enum-told .given .1)) ∙ c .before .before .check-bounds .ensures
-
-magnitude-requires : tie.Need-magnitude-requires
-magnitude-requires c κs = search needs
-
-returns : tie.Need-returns
-unfolding sent
-returns c = no-displacement (sent (c .before .before)) (sym (size (c .before)) ∙ c .if1 .taken)
-
-returns-2 : tie.Need-returns-2
-unfolding sent
-returns-2 c = displacement-far (sent (c .before .before .before)) (moves (c .before)) (omega (arith, size (c .before .before)))
-
-check-bounds-requires : tie.Need-check-bounds-requires
-check-bounds-requires c κs = search needs
-
-enum-known-bounds : tie.Need-enum-known-bounds
-enum-known-bounds c = search needs
-
-enum-told : tie.Need-enum-told
-enum-told c = search needs
-
-mul-undivided-in-range : tie.Need-mul-undivided-in-range
-mul-undivided-in-range c = search needs
+enum-known-figures-2 : tie.Need-enum-known-figures-2
+enum-known-figures-2 c = search needs
 
 undivided-in-range-requires : tie.Need-undivided-in-range-requires
-unfolding sent
-undivided-in-range-requires c κs = figures (sent (c .before .before .before .before .before .before)) (omega arith) (in-range c)
+undivided-in-range-requires c κs = figures _ (ap figuresOutcome (sym (c .before .figures2 .given .1)) ∙ answered (c .before .before .before))
 
-returns-3 : tie.Need-returns-3
-unfolding sent
-returns-3 c =
-    let b = c .before .before .before .before in
-    bound-refused (sent (c .before .before .before .before .before .before .before)) (moves (b .before)) (near b) _
-    (ap boundsOutcome (sym (c .before .bounds .given .1)) ∙ c .before .before .before .check-bounds .ensures)
+returns : tie.Need-returns
+returns c = figures-refused _ _ (ap figuresOutcome (sym (c .before .figures .given .1)) ∙ answered (c .before .before .before))
 
-returns-4 : tie.Need-returns-4
-unfolding sent
-returns-4 c =
-    let b = c .before .before .before .before in
-    bounds-passed (sent (c .before .before .before .before .before .before .before)) (moves (b .before)) (near b) (in-range (c .before))
-    (rw (scaled (b .before .before)) at (c .undivided-in-range .ensures))
+returns-2 : tie.Need-returns-2
+returns-2 c =
+    figures-passed _ (ap figuresOutcome (sym (c .before .before .figures2 .given .1)) ∙ answered (c .before .before .before .before))
+    (c .undivided-in-range .ensures)
 
 pub undivided-plan-spec : {M : Type 1} → statement M
 undivided-plan-spec =
     tie.close
-    (tie.spec
-    magnitude-requires
-    returns
-    returns-2
-    check-bounds-requires
-    enum-known-bounds
-    enum-told
-    mul-undivided-in-range
-    undivided-in-range-requires
-    returns-3
-    returns-4)
+    (tie.spec check-figures-requires enum-known-figures enum-known-figures-2 undivided-in-range-requires returns returns-2)

@@ -9,8 +9,8 @@ pub write-table-spec : {M : Type 1} → statement M
 write-table-spec =
     tie.close
     (tie.spec
-    (λ kind table first sum₀ i₀ sum i. i ≤ length table)
-    (λ kind table first sum₀ i₀ sum i. length table - i)
+    (λ kind third table first sum₀ i₀ sum i. i ≤ length table)
+    (λ kind third table first sum₀ i₀ sum i. length table - i)
     (λ c κs. search needs)
     (λ c κs. search needs)
     (λ c. search needs)

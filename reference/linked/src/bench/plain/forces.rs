@@ -38,16 +38,17 @@ fn fill(
 ) {
     let before = Segment {
         samples: 2,
-        snap: 0,
+        switched: 0,
     };
     let (mut jerk, mut acceleration, mut velocity) = (0, 0, 0);
     let mut rest = table;
     for segment in [&before].into_iter().chain(segments) {
         let (places, after) = rest.split_at_mut(segment.samples);
         for place in places {
-            let (next_jerk, next_velocity) = (jerk + segment.snap, velocity + acceleration);
+            let (next_jerk, next_velocity) = (jerk + segment.switched, velocity + acceleration);
             let (j2, v2) = (next_jerk + jerk, next_velocity + velocity);
-            let [d2, j2, a2, v2] = [2 * segment.snap, j2, 2 * acceleration, v2].map(|x| x as f64);
+            let [d2, j2, a2, v2] =
+                [2 * segment.switched, j2, 2 * acceleration, v2].map(|x| x as f64);
             *place = force((q.q1 * d2 + q.q2 * j2 + q.q3 * a2 + q.q4 * v2) * 0.5);
             acceleration += next_jerk;
             jerk = next_jerk;

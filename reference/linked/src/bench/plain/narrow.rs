@@ -8,7 +8,7 @@
 //! Nothing passes 64 bits: each f(n) is below 2^50, and J1, A1 and V1 come from
 //! products of at most 2^50 and an interval of 8,194.
 
-use reference::planner::{Answer, Move, Plan, MOST_SAMPLES};
+use reference::planner::{Answer, Move, Order, Plan, MOST_SAMPLES};
 
 /// What a search gives where no number up to 4,096 has its property. One such
 /// interval makes a refusal, so later ones need not be right.
@@ -16,7 +16,7 @@ const NONE: u64 = MOST_SAMPLES as u64 + 1;
 
 /// Plans a move as `plan` does.
 pub fn plan_narrow(motion: &Move) -> Answer {
-    if let Some(number) = motion.range_refusal() {
+    if let Some(number) = motion.range_refusal(Order::Fourth) {
         return Answer::Refused(number);
     }
     let w = motion.displacement.unsigned_abs() << 40;
@@ -61,11 +61,11 @@ fn least(mut low: u64, mut high: u64, needed: u64, growth: impl Fn(u64) -> u64) 
 
 fn planned(w: u64, [a, b, c, e]: [u64; 4]) -> Answer {
     let p = a * b * c * e;
-    let snap = w / p;
-    let (intervals, shortfall) = ([a, b, c, e], w - snap * p);
+    let switched = w / p;
+    let (intervals, shortfall) = ([a, b, c, e], w - switched * p);
     Answer::Planned(Plan {
         intervals,
-        snap,
+        switched,
         shortfall,
     })
 }

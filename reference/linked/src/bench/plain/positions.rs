@@ -19,7 +19,7 @@ pub fn positions(motion: &Move, table: &mut [i64]) -> TableAnswer {
             position += velocity;
             velocity += acceleration;
             acceleration += jerk;
-            jerk += segment.snap;
+            jerk += segment.switched;
         }
         rest = after;
     }

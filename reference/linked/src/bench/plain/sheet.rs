@@ -89,7 +89,7 @@ fn move_line(number: u64, motion: &Move, out: &mut Output) {
             out.put_number(" q ", q);
             out.put_number(" r ", r);
             out.put_number(" s ", s);
-            out.put_number(snap_word, plan.snap);
+            out.put_number(snap_word, plan.switched);
             out.put_number(" short ", plan.shortfall);
         }
     }

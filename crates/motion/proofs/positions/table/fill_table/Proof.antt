@@ -6,16 +6,17 @@ use mir.Syntax.{w64}
 use mir.Facts.{toZ-ofZ}
 use Rattle.motion.specs.Inner.SnapLevels.{AreLevels}
 use Rattle.motion.specs.Inner.Runs.{positionWriter, Ran}
+use Rattle.motion.specs.Inner.SegmentLists.{segmentsOf}
 use Rattle.motion.proofs.StateLaws.{snap-small}
 use Rattle.motion.proofs.RunLaws.{ran-length}
-use Rattle.motion.proofs.SegmentRuns.{snapsFrom, SegmentsLeft, first-segment, plan-ran, segment-can-run, next-segment, all-ran}
+use Rattle.motion.proofs.SegmentRuns.{fourth-segments, sixteen, listFrom, SegmentsLeft, first-segment, plan-ran, segment-can-run, next-segment, all-ran}
 use Rattle.motion.proofs.PositionLaws.{positions-can-run, positions-in}
 use Rattle.motion.proofs.positions.table.fill_table.Statement.{statement}
 use Rattle.motion.proofs.positions.table.fill_table.Tie as tie
 
 abbrev Inv-loop : tie.InvT-loop
 Inv-loop table₀ displacement levels durations state₀ i₀ table state i =
-    SegmentsLeft positionWriter durations levels state₀ table₀ i state table
+    SegmentsLeft positionWriter (segmentsOf durations) levels state₀ table₀ i state table
 
 abbrev μ-loop : tie.MeasureT-loop
 μ-loop table₀ displacement levels durations state₀ i₀ table state i = 16 - i
@@ -39,8 +40,8 @@ levels c =
 loop-holds : tie.Need-loop-holds Inv-loop μ-loop
 loop-holds c =
     let d = c .before .before .before in
-    first-segment (d .pre .0) (c .before .durations-of .ensures) (levels (c .before .before))
-    (rw (c .at-rest .ensures) (positions-can-run (d .args .displacement) _ _ (d .pre .0) _ (omega arith) (omega (arith, d .pre .1))))
+    first-segment (fourth-segments (c .before .durations-of .ensures)) (levels (c .before .before))
+    (rw (c .at-rest .ensures) (positions-can-run (d .args .displacement) _ _ (d .pre .0) (omega (arith, d .pre .1))))
 
 segment-at-requires : tie.Need-segment-at-requires Inv-loop μ-loop
 segment-at-requires c κs = omega arith
@@ -49,7 +50,7 @@ store-segment-requires : tie.Need-store-segment-requires Inv-loop μ-loop
 store-segment-requires c κs =
     let g = c .before .before .segment-at in
     segment-can-run (c .before .before .before .before .loop .inv) (g .ensures)
-    (toZ-ofZ {w = w64} {z = g .result .snap} (record { sfits = c .struct-told .given .1 .0 .1 }))
+    (toZ-ofZ {w = w64} {z = g .result .level} (record { sfits = c .struct-told .given .1 .0 .1 }))
 
 add-i : tie.Need-add-i Inv-loop μ-loop
 add-i c = omega arith
@@ -61,16 +62,17 @@ loop-again : tie.Need-loop-again Inv-loop μ-loop
 loop-again c =
     let d = c .before .before in
     let g = d .before .before .segment-at in
+    let r = d .before .before .before .before .before .before in
     next-segment (d .before .before .before .before .loop .inv) (g .ensures)
-    (toZ-ofZ {w = w64} {z = g .result .snap} (record { sfits = d .struct-told .given .1 .0 .1 }))
-    (omega (arith, d .before .before .before .loop-test .taken)) (c .before .store-segment .ensures)
+    (toZ-ofZ {w = w64} {z = g .result .level} (record { sfits = d .struct-told .given .1 .0 .1 }))
+    (omega (arith, d .before .before .before .loop-test .taken, sixteen (r .durations-of .result))) (c .before .store-segment .ensures)
 
 ran :
     (c : tie.After-loop Inv-loop μ-loop)
     → let d = c .before .before in
-    Ran positionWriter (snapsFrom (d .before .durations-of .result) (d .before .before .levels-of .result) 0) (d .at-rest .result)
+    Ran positionWriter (listFrom (segmentsOf (d .before .durations-of .result)) (d .before .before .levels-of .result) 0) (d .at-rest .result)
     (d .before .before .before .args .table .now) (c .before .loop .table) (c .before .loop .state)
-ran c = all-ran (c .before .loop .inv) (omega (arith, c .loop-test .left))
+ran c = all-ran (c .before .loop .inv) (omega (arith, c .loop-test .left, sixteen (c .before .before .before .durations-of .result)))
 
 same-length : tie.Need-same-length Inv-loop μ-loop
 same-length c = ran-length (ran c)
@@ -79,7 +81,7 @@ returns : tie.Need-returns Inv-loop μ-loop
 returns c =
     let r = c .before .before in
     let d = r .before .before .before in
-    let whole = plan-ran (d .pre .0) (r .before .durations-of .ensures) (levels (r .before .before)) (ran c) in
+    let whole = plan-ran (fourth-segments (r .before .durations-of .ensures)) (levels (r .before .before)) (ran c) in
     positions-in (d .args .displacement) _ _ (d .pre .0) (d .pre .1) (rw (r .at-rest .ensures) at whole)
 
 pub fill-table-spec : {M : Type 1} → statement M

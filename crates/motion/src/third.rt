@@ -1,0 +1,4 @@
+// One sample and the positions of a third-order plan: the jerk is switched, and three sums follow it.
+pub(crate) mod store;
+pub(crate) mod sums;
+pub(crate) mod table;

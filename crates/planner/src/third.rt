@@ -1,0 +1,37 @@
+// The third-order plan of a move in range.
+use crate::Refusal;
+use crate::ThirdAnswer;
+use crate::ThirdPlan;
+use crate::division::divide;
+use crate::in_range::MOST_SAMPLES;
+use crate::intervals::later_intervals;
+ghost use mathlib.Core.Path.{_≡_};
+ghost use Rattle.planner.specs.Third.{thirdOutcome};
+ghost use Rattle.planner.specs.Inner.ThirdWithin.{ThirdFigures, thirdWithin};
+
+// What is asked in place of a bound on the snap: it is in range.
+pub(crate) const UNREAD: u64 = 1;
+
+// The base's later intervals with a = 0 and J1 = J; or refusal 7.
+pub(crate) fn third_in_range(w: u64, v: u64, acc: u64, j: u64) -> ThirdAnswer
+    requires { ⌜ ThirdFigures w v acc j ⌝ }
+    ensures { λ r. ⌜ thirdOutcome r ≡ thirdWithin w v acc j ⌝ }
+{
+    let t = later_intervals(w, v, acc, j, 0);
+    let b = t.b;
+    let c = t.c;
+    let e = t.e;
+    let n = b + c + e;
+    if MOST_SAMPLES < n {
+        return ThirdAnswer::Refused(Refusal::TooManySamples);
+    }
+    let p = b * c * e;
+    let d = divide(w, p);
+    ThirdAnswer::Planned(ThirdPlan {
+        b,
+        c,
+        e,
+        jerk: d.quotient,
+        shortfall: d.shortfall,
+    })
+}

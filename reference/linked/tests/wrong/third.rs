@@ -1,0 +1,104 @@
+use super::assert_found;
+use linked::differential::{Entries, Lent, Proved};
+use linked::library::{Move, SampleResult, TableResult, ThirdPlanResult};
+
+const TABLES: [&str; 2] = ["third_positions", "third_reference"];
+
+/// What becomes of a right plan, sample or table.
+struct Plans(fn(Move, &mut ThirdPlanResult));
+struct Samples(fn(u64, &mut SampleResult));
+struct Tables(fn(&mut TableResult, &mut [i64]));
+
+impl Entries for Plans {
+    fn plan_third(&self, motion: Move) -> ThirdPlanResult {
+        let mut result = Proved.plan_third(motion);
+        self.0(motion, &mut result);
+        result
+    }
+}
+
+impl Entries for Samples {
+    fn sample_third(&self, motion: Move, sample: u64) -> SampleResult {
+        let mut result = Proved.sample_third(motion, sample);
+        self.0(sample, &mut result);
+        result
+    }
+}
+
+impl Entries for Tables {
+    fn fill_positions_third(&self, motion: Move, table: &mut Lent<i64>) -> TableResult {
+        let mut result = Proved.fill_positions_third(motion, table);
+        self.0(&mut result, table.places());
+        result
+    }
+
+    fn fill_reference_third(&self, motion: Move, table: &mut Lent<i64>) -> TableResult {
+        let mut result = Proved.fill_reference_third(motion, table);
+        self.0(&mut result, table.places());
+        result
+    }
+}
+
+#[test]
+fn a_shortfall_that_is_left_out() {
+    let wrong = Plans(|_, result| result.shortfall = 0);
+    assert_found(&wrong, "third_plan", "refusal 0, from field 6 on");
+}
+
+#[test]
+fn a_snap_bound_that_is_read() {
+    let wrong = Plans(|motion, result| {
+        if result.refusal == 0 && motion.snap == (1 << 50) + 1 {
+            result.refusal = 6;
+        }
+    });
+    assert_found(&wrong, "third_plan", "library: refusal 6");
+}
+
+#[test]
+fn a_snap_that_is_not_0() {
+    let wrong = Samples(|_, result| result.sample.snap = result.sample.jerk);
+    assert_found(&wrong, "third_sample", "refusal 0, from field 1 on");
+}
+
+/// As in fourth order.
+#[test]
+fn a_jerk_of_0_at_sample_0() {
+    let wrong = Samples(|k, result| result.sample.jerk *= i64::from(k > 0));
+    assert_found(&wrong, "third_sample", "from field 2 on [0, 0, 0, 0]");
+}
+
+#[test]
+fn a_remainder_towards_zero_at_a_half() {
+    let wrong = Samples(|_, result| {
+        if result.sample.remainder.abs() == 1 << 39 {
+            result.sample.remainder = -result.sample.remainder;
+        }
+    });
+    assert_found(&wrong, "third_sample", "from field 7 on");
+}
+
+#[test]
+fn a_last_row_that_is_left_out() {
+    let wrong = Tables(|result, table| {
+        if let Some(last) = result.rows.checked_sub(1) {
+            table[last as usize] = 0;
+        }
+    });
+    for kind in TABLES {
+        assert_found(&wrong, kind, "holds 0\nreference: place");
+    }
+}
+
+/// With N+1 places the table is refused.
+#[test]
+fn a_place_more_that_is_asked_for() {
+    let wrong = Tables(|result, table| {
+        if result.refusal == 0 && result.rows == table.len() as u64 {
+            result.refusal = 8;
+        }
+    });
+    for kind in TABLES {
+        assert_found(&wrong, kind, "library: refusal 8");
+    }
+}
