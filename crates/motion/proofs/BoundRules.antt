@@ -9,7 +9,6 @@ use Rattle.planner.specs.Quantities.{along}
 use Rattle.planner.specs.Intervals.{Intervals}
 use Rattle.planner.specs.declared.Move.{Move}
 use Rattle.planner.proofs.DirectionLaws.{size-along, along-forward, along-backward}
-use Rattle.profile.specs.Profile.{sum}
 use Rattle.profile.specs.Profile as profile
 use Rattle.profile.specs.Inner.Facts.{jerkOver, At}
 use Rattle.profile.proofs.ValueLaws.{value-size}

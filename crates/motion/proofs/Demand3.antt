@@ -13,9 +13,9 @@ use Rattle.planner.specs.Third.{P₃, thirdIntervalsOf, thirdSamplesOf}
 use Rattle.planner.specs.ThirdClaims.{ThirdAccepted}
 use Rattle.planner.specs.declared.Move.{Move}
 use Rattle.planner.proofs.RefusalLaws.{Passes}
-use Rattle.planner.proofs.Acceptance.{accepted-passes}
+use Rattle.planner.proofs.Acceptance.{accepted-passes, third-passes}
 use Rattle.planner.proofs.PlannedFacts.{rule-facts}
-use Rattle.planner.proofs.ThirdTheorems.{third-passes, third-rule-facts}
+use Rattle.planner.proofs.ThirdTheorems.{third-rule-facts}
 use Rattle.profile.specs.Inner.Widths.{span, product}
 use Rattle.motion.specs.Sampling.{valuesOf, exactPositionTimesP, thirdValuesAt, thirdValuesOf, thirdExactTimesP, Motion, fourthOrder, thirdOrder, sampleWith, Samples}
 use Rattle.motion.specs.Tables.{FillsPositions}
@@ -29,7 +29,7 @@ use Rattle.motion.proofs.KeptRules.{keeps, third-keeps, third-follows}
 use Rattle.motion.proofs.KeptLaws.{kept-snap, kept, kept-any}
 
 -- a motion whose move the planner does not refuse
-module _ (x : Motion) (p : Each Passes (x .refusals)) where
+module _ (x : Motion) (p : Each Passes (x .planChecks)) where
   -- the rule's own values, rounded
   abbrev pub ruleAt : ℕ → Sample
   ruleAt k = withRounding (x .values k)
@@ -37,7 +37,7 @@ module _ (x : Motion) (p : Each Passes (x .refusals)) where
   -- what the one-sample entry gives
   pub sampled : {k : ℕ} {o : Result ℕ Sample} → k ≤ x .samples → Samples x k o → o ≡ given (ruleAt k)
   unfolding sampleWith
-  sampled {k} l h = only-sample x k h ∙ passes (x .refusals) p 9 _ _ (le-ltb (x .samples) k l)
+  sampled {k} l h = only-sample x k h ∙ passes (x .planChecks) p 9 _ _ (le-ltb (x .samples) k l)
 
   -- what both orders share, where the rule's own values keep the lines
   shared :
@@ -80,5 +80,6 @@ unfolding thirdValuesOf thirdValuesAt shared
 third-demand-3 m h sample promised old new rows room filled =
     record {
       shared = shared (thirdOrder m) (third-passes m h) (third-kept m h) sample promised old new rows room filled;
+      jerk-switched = λ k l. refl;
       snap-none = λ k l. refl;
     }

@@ -14,8 +14,8 @@ use Rattle.profile.specs.Inner.Widths.{Spread, switched, switchedBy}
 use Rattle.profile.proofs.SwitchedLaws.{value-by-negated, value-by-widths}
 use Rattle.profile.proofs.Orders.{fifteen, seven}
 use Rattle.motion.specs.Sampling.{valuesAt}
-use Rattle.motion.specs.declared.snap.Levels.{Levels}
-use Rattle.motion.specs.Inner.SnapLevels.{AreLevels}
+use Rattle.motion.specs.declared.switched.Levels.{Levels}
+use Rattle.motion.specs.Inner.SwitchedLevels.{AreLevels}
 use Rattle.motion.specs.Inner.Planned.{widthsOf, thirdWidthsOf, directedSnap}
 use Rattle.motion.specs.Inner.SegmentLists.{thirdSegments}
 use Rattle.motion.proofs.OrderedLaws.{spread, third-spread}

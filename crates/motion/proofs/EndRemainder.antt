@@ -9,7 +9,7 @@ use lib.IntN.{negℤ}
 use lib.ListN.{length, take, getD}
 use Rattle.planner.specs.Intervals.{N, D}
 use Rattle.planner.specs.Result.{Each, given}
-use Rattle.planner.specs.Outcome.{distanceOf, intervalsOf, intervalsIn, samplesOf}
+use Rattle.planner.specs.Outcome.{distanceOf, intervalsOf, intervalsIn}
 use Rattle.planner.specs.Third.{thirdIntervalsIn}
 use Rattle.planner.specs.Axes.{restPlan, raised, atRest, axisPlan, commonSamples}
 use Rattle.planner.specs.AxesClaims.{axisAt, AcceptedAxis}
@@ -31,7 +31,7 @@ use Rattle.motion.specs.Claims.{EndRemainder, EndRemainderClaim, ThirdEn
 use Rattle.motion.specs.AxesClaims.{AxesEndRemainderClaim}
 use Rattle.motion.specs.declared.Sample.{Sample}
 use Rattle.motion.proofs.RoundedValues.{withRounding}
-use Rattle.motion.proofs.EntryLaws.{Planned, fourth-planned, third-planned}
+use Rattle.motion.proofs.EntryLaws.{PlannedAs, fourth-planned, third-planned}
 use Rattle.motion.proofs.KeptRules.{keeps, third-keeps, fourth-follows, third-follows}
 use Rattle.motion.proofs.KeptLaws.{sampleAt}
 use Rattle.motion.proofs.EndRule.{remainder-end}
@@ -42,7 +42,7 @@ use Rattle.motion.proofs.AxesSampleRuns.{most, plan-is}
 
 -- the last sample of a plan
 last-sample :
-    {x : Motion} {n : ℕ} {v : ℕ → Values} → Planned x n v
+    {x : Motion} {n : ℕ} {v : ℕ → Values} → PlannedAs x n v
     → {last : Sample} → Samples x (x .samples) (given last)
     → last ≡ withRounding (v n)
 last-sample {x} {v = v} f s =

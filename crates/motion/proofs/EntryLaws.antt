@@ -2,7 +2,7 @@
 use mathlib.Core.Bool.{Bool, true, false}
 use mathlib.Core.List.{List, [], _∷_, _++_}
 use mathlib.Core.Path.{_≡_, sym, ap, subst, _∙_}
-use Prim.Native.Nat.{ℕ, _+_, _≤_, _^_}
+use Prim.Native.Nat.{ℕ, _+_}
 use native.Mathlib.Nat.{le-trans}
 use native.Mathlib.Omega.{arith}
 use lib.Ieee.{Float}
@@ -22,11 +22,10 @@ use Rattle.planner.specs.declared.Refusal.{Refusal}
 use Rattle.planner.specs.declared.ThirdPlan.{ThirdPlan}
 use Rattle.planner.specs.declared.ThirdAnswer.{ThirdAnswer}
 use Rattle.planner.specs.declared.ThirdAnswer.the-variants.{Refused as NoThird}
-use Rattle.planner.proofs.Acceptance.{accepted-passes}
+use Rattle.planner.proofs.Acceptance.{accepted-passes, third-passes}
 use Rattle.planner.proofs.FiguresChecks.{near-distance}
-use Rattle.planner.proofs.ThirdTheorems.{third-passes}
 use Rattle.planner.proofs.RefusalLaws.{Passes, stop, skip, none-left, all-pass, checks-joined}
-use Rattle.motion.specs.Sampling.{Values, valuesAt, valuesOf, thirdValuesAt, thirdValuesOf, Motion, fourthOrder, thirdOrder}
+use Rattle.motion.specs.Sampling.{Values, valuesAt, valuesOf, thirdValuesOf, Motion, fourthOrder, thirdOrder}
 use Rattle.motion.specs.ForceRows.Machine.{Machine, machineAsRead}
 use Rattle.motion.specs.ForceRows.Doubled.{Doubled}
 use Rattle.motion.specs.ForceRows.Force.{forceRow}
@@ -65,8 +64,8 @@ module _ (xs : List (Check ℕ)) (p : Each Passes xs) where
   passes n t o k = own-checks (check n t ∷ []) o ∙ sym (skip k none-left .is)
 
 -- a plan with n samples and these values, as the rules of the motion x have it
-pub record Planned (x : Motion) (n : ℕ) (v : ℕ → Values) : Type 0 where
-  pub pass : Each Passes (x .refusals)
+pub record PlannedAs (x : Motion) (n : ℕ) (v : ℕ → Values) : Type 0 where
+  pub pass : Each Passes (x .planChecks)
   pub samples-are : n ≡ x .samples
   pub values-are : (k : ℕ) → v k ≡ x .values k
 
@@ -87,7 +86,7 @@ module _ {m : Move} {x : Plan} (f : PlanFacts m (intervalsOf m) x) where
   by-rule : {T : Type 0} (F : Plan → T) → F x ≡ F (planOf (distanceOf m) (intervalsOf m))
   by-rule F = ap F (f .plan-rule)
 
-  pub fourth-planned : Planned (fourthOrder m) (N (intervalsIn x)) (valuesAt (m .displacement) (intervalsIn x) (x .snap))
+  pub fourth-planned : PlannedAs (fourthOrder m) (N (intervalsIn x)) (valuesAt (m .displacement) (intervalsIn x) (x .snap))
   unfolding samplesOf valuesOf
   fourth-planned =
       record {
@@ -117,7 +116,7 @@ module _ {m : Move} {x : ThirdPlan} (f : ThirdFacts m x) where
         reach = le-trans (omega (arith, f .whole)) (near-distance (m .displacement) (f .accepted .in-range .near));
       }
 
-  pub third-planned : Planned (thirdOrder m) (N₃ (thirdIntervalsIn x)) (thirdValuesIn (m .displacement) x)
+  pub third-planned : PlannedAs (thirdOrder m) (N₃ (thirdIntervalsIn x)) (thirdValuesIn (m .displacement) x)
   unfolding thirdSamplesOf thirdValuesOf
   third-planned =
       record {

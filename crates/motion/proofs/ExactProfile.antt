@@ -5,10 +5,10 @@ use Prim.Native.Nat.{ℕ, suc, _*_}
 use native.Mathlib.Nat.{le-refl, mul-comm}
 use lib.IntN.{ℤ, pos, negsuc, negℤ, _*ℤ_}
 use Rattle.planner.specs.Quantities.{unitsPerCount, distance, along}
-use Rattle.planner.specs.Intervals.{Intervals, N, P}
+use Rattle.planner.specs.Intervals.{Intervals, P}
 use Rattle.planner.specs.Outcome.{distanceOf, intervalsOf}
 use Rattle.planner.specs.Axes.{raised}
-use Rattle.planner.specs.Third.{thirdIntervalsOf, thirdSamplesOf}
+use Rattle.planner.specs.Third.{thirdIntervalsOf}
 use Rattle.planner.specs.Inner.Facts.{Ordered}
 use Rattle.planner.specs.declared.Move.{Move}
 use Rattle.planner.proofs.PlannedFacts.{rule-ordered}
@@ -19,9 +19,9 @@ use Rattle.profile.specs.Profile as profile
 use Rattle.profile.specs.Inner.Widths.{span, product, Spread}
 use Rattle.profile.specs.Inner.Facts.{jerkOver}
 use Rattle.profile.proofs.AnyOrder.{any-order-end}
-use Rattle.motion.specs.Sampling.{Values, valuesAt, exactPositionTimesP, thirdExactTimesP, unitsOf}
+use Rattle.motion.specs.Sampling.{Values, valuesAt, thirdValuesAt, exactPositionTimesP, thirdExactTimesP, unitsOf}
 use Rattle.motion.specs.AxesClaims.{AxisExactProfileClaim}
-use Rattle.motion.specs.Demand3.{IsExactProfile, ExactProfileClaim, ThirdExactProfileClaim}
+use Rattle.motion.specs.Demand3.{ExactIn, ExactProfileClaim, ThirdExactProfileClaim}
 use Rattle.motion.proofs.IntegerLaws.{multiple-negated}
 use Rattle.motion.proofs.OrderedLaws.{spread, third-spread}
 use Rattle.motion.proofs.KeptRules.{Follows, fourth-follows, third-follows}
@@ -44,13 +44,16 @@ whole-end m a inner c e s w =
     ∙ whole-way (m .displacement) (product a (e ∷ c ∷ inner))
 
 pub third-exact-profile : ThirdExactProfileClaim
-unfolding thirdExactTimesP thirdSamplesOf span product
+unfolding thirdExactTimesP thirdValuesAt span product
 third-exact-profile m =
     let t = thirdIntervalsOf m in
-    whole-end m (t .b) [] (t .c) (t .e) (third-spread (third-rule-ordered m)) (third-follows (m .displacement) (thirdIntervalsOf m) (distanceOf m))
+    record {
+      summed = λ k. refl;
+      at-end = whole-end m (t .b) [] (t .c) (t .e) (third-spread (third-rule-ordered m)) (third-follows (m .displacement) t (distanceOf m));
+    }
 
 -- of any intervals that follow each other
-exact : (m : Move) {t : Intervals} → Ordered t → IsExactProfile m t (λ k. valuesAt (m .displacement) t (distanceOf m) k .position)
+exact : (m : Move) {t : Intervals} → Ordered t → ExactIn m t (λ k. valuesAt (m .displacement) t (distanceOf m) k .position)
 unfolding valuesAt profile.snap profile.jerk profile.acceleration profile.velocity profile.position span product
 exact m {t} o =
     record {
@@ -64,4 +67,4 @@ exact-profile m = exact m (rule-ordered m)
 
 pub axis-exact-profile : AxisExactProfileClaim
 axis-exact-profile n m h =
-    subst (IsExactProfile m (raised n (intervalsOf m))) (sym (exact-by n m (moving-rest m h))) (exact m (raised-ordered n m))
+    subst (ExactIn m (raised n (intervalsOf m))) (sym (exact-by n m (moving-rest m h))) (exact m (raised-ordered n m))

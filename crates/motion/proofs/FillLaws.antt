@@ -15,7 +15,7 @@ use Rattle.planner.proofs.ResultLaws.{same-given}
 use Rattle.motion.specs.Sampling.{Values, Motion}
 use Rattle.motion.specs.Tables.{rowsFrom, tableOf, tableChecks, tableResult, Fills, FillsPositions, referenceRow, FillsReference}
 use Rattle.motion.specs.Inner.Planned.{RowsIn, WritesRows}
-use Rattle.motion.proofs.EntryLaws.{Planned, own-checks}
+use Rattle.motion.proofs.EntryLaws.{PlannedAs, own-checks}
 
 length-rows : {A : Type 0} (row : ℕ → A) (k n : ℕ) → length (rowsFrom row k n) ≡ n
 unfolding rowsFrom
@@ -58,15 +58,15 @@ module _ {A : Type 0} {rows : ℕ} {row : ℕ → A} {old : List A} where
 
   -- a move in either order and a table
   module _ {x : Motion} {own : List (Check ℕ)} where
-    pub fills-refused : {Y : Type 0} (y : Y) (n : ℕ) → refused n ≡ firstRefusal (x .refusals) (given y) → Fills x own rows row old (refused n) old
+    pub fills-refused : {Y : Type 0} (y : Y) (n : ℕ) → refused n ≡ firstRefusal (x .planChecks) (given y) → Fills x own rows row old (refused n) old
     unfolding tableResult tableOf
     fills-refused y n h =
-        let first = refused-on (x .refusals) (check 8 (ltb (length old) rows) ∷ own) y (given rows) n h in
+        let first = refused-on (x .planChecks) (check 8 (ltb (length old) rows) ∷ own) y (given rows) n h in
         record { outcome-is = first; table-is = ap (λ (r : Result ℕ ℕ). tableOf r (rowsFrom row 0 rows) old) first }
 
     pub fills :
         {planRows : ℕ} {planRow : ℕ → A} {new : List A} {o : Result ℕ ℕ}
-        → Each Passes (x .refusals)
+        → Each Passes (x .planChecks)
         → planRows ≡ rows
         → ((k : ℕ) → planRow k ≡ row k)
         → WritesRows own planRows planRow old o new
@@ -76,7 +76,7 @@ module _ {A : Type 0} {rows : ℕ} {row : ℕ → A} {old : List A} where
         let result =
         w .outcome-is
         ∙ ap (λ (n : ℕ). firstRefusal (check 8 (ltb (length old) n) ∷ own) (given n)) count
-        ∙ sym (own-checks (x .refusals) h (check 8 (ltb (length old) rows) ∷ own) (given rows)) in
+        ∙ sym (own-checks (x .planChecks) h (check 8 (ltb (length old) rows) ∷ own) (given rows)) in
         record {
           outcome-is = result;
           table-is =
@@ -88,7 +88,7 @@ module _ {A : Type 0} {rows : ℕ} {row : ℕ → A} {old : List A} where
     -- what the table holds where no check applies
     module _
         {new : List A} {o : Result ℕ ℕ}
-        (h : Each Passes (x .refusals))
+        (h : Each Passes (x .planChecks))
         (room : rows ≤ length old)
         (pass : Each Passes own)
         (filled : Fills x own rows row old o new)
@@ -96,7 +96,7 @@ module _ {A : Type 0} {rows : ℕ} {row : ℕ → A} {old : List A} where
         all-filled : tableResult x own rows (length old) ≡ given rows
         unfolding tableResult
         all-filled =
-            own-checks (x .refusals) h (check 8 (ltb (length old) rows) ∷ own) (given rows)
+            own-checks (x .planChecks) h (check 8 (ltb (length old) rows) ∷ own) (given rows)
             ∙ all-pass (check 8 (ltb (length old) rows) ∷ own) (given rows) (le-ltb (length old) rows room, pass)
 
         pub filled-outcome : o ≡ given rows
@@ -124,13 +124,13 @@ module _ {A : Type 0} {rows : ℕ} {row : ℕ → A} {old : List A} where
 
     -- a table that was filled: no check applied, so all that was sent was in range
     module _ {n : ℕ} {new : List A} (filled : Fills x own rows row old (given n) new) where
-      none-applies : Each Passes (x .refusals) × Each Passes (check 8 (ltb (length old) rows) ∷ own)
+      none-applies : Each Passes (x .planChecks) × Each Passes (check 8 (ltb (length old) rows) ∷ own)
       unfolding tableResult
       none-applies =
-          each-parts Passes (x .refusals) (check 8 (ltb (length old) rows) ∷ own)
+          each-parts Passes (x .planChecks) (check 8 (ltb (length old) rows) ∷ own)
           (passed (tableChecks x own rows (length old)) rows n (sym (filled .outcome-is)))
 
-      pub filled-passes : Each Passes (x .refusals)
+      pub filled-passes : Each Passes (x .planChecks)
       filled-passes = none-applies .0
 
       pub filled-room : rows ≤ length old
@@ -146,7 +146,7 @@ module _ {A : Type 0} {rows : ℕ} {row : ℕ → A} {old : List A} where
       filled-at x k l = filled-row filled-passes filled-room filled-own filled x k (omega (arith, filled-rows))
 
 -- a plan's positions
-module _ {x : Motion} {n : ℕ} {v : ℕ → Values} (f : Planned x n v) {old new : List ℤ} {o : Result ℕ ℕ} where
+module _ {x : Motion} {n : ℕ} {v : ℕ → Values} (f : PlannedAs x n v) {old new : List ℤ} {o : Result ℕ ℕ} where
   pub fills-positions : WritesRows [] (n + 1) (λ k. v k .position) old o new → FillsPositions x old o new
   unfolding FillsPositions
   fills-positions = fills (f .pass) (ap (λ (n : ℕ). n + 1) (f .samples-are)) (λ k. ap (λ (v : Values). v .position) (f .values-are k))

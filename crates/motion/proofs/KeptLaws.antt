@@ -1,6 +1,6 @@
 -- Demand 3, line by line: the lines that both orders share for any profile over widths that keeps the bounds and leaves a small shortfall,
 -- and the lines on the snap for any four intervals.
-use mathlib.Core.List.{List, [], _∷_}
+use mathlib.Core.List.{List, _∷_}
 use mathlib.Core.Path.{_≡_}
 use Prim.Native.Nat.{ℕ, _≤_}
 use native.Mathlib.Nat.{le-refl}

@@ -8,6 +8,7 @@ pub mod OrderedLaws
 pub mod RestLaws
 pub mod InnerSampleLaws
 pub mod StepLaws
+pub mod DirectedSizes
 pub mod StateLaws
 -- A table: runs of stores, the segments, and the rows that they leave.
 pub mod RunLaws
@@ -19,7 +20,7 @@ pub mod SegmentRuns
 -- The switched value by the widths; the third order's sums, and its runs; the positions of both orders.
 pub mod DirectedValue
 pub mod ThirdStates
-pub mod HeldRuns
+pub mod JerkRuns
 pub mod PositionLaws
 -- The rows of a force table, and what they are exactly.
 pub mod ForceRows

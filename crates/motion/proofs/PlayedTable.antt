@@ -10,13 +10,14 @@ use lib.Signed.{_≤ℤ_, _<ℤ_}
 use Rattle.planner.specs.Quantities.{unitsPerCount}
 use Rattle.planner.specs.Result.{Result}
 use Rattle.planner.specs.Outcome.{samplesOf}
+use Rattle.planner.specs.Third.{thirdSamplesOf}
 use Rattle.planner.specs.declared.Move.{Move}
 use Rattle.profile.specs.Profile.{sum}
-use Rattle.motion.specs.Sampling.{Motion}
-use Rattle.motion.specs.Demand3.{Demand3Of, Demand3}
+use Rattle.motion.specs.Sampling.{thirdValuesOf, Motion}
+use Rattle.motion.specs.Demand3.{Demand3Of, Demand3, ThirdDemand3}
 use Rattle.motion.specs.declared.Sample.{Sample}
 use Rattle.motion.proofs.IntegerLaws.{negated-difference, swapped-difference}
-use Rattle.motion.proofs.SumsFromRest.{sums-up}
+use Rattle.motion.proofs.SumsFromRest.{sums-up, sum-same}
 use Rattle.motion.proofs.EitherDirection.{Along, not-positive, along-either, below-either}
 
 module _ (m : Move) (x : Motion) (jerk : ℕ → ℤ) (table : List ℤ) where
@@ -119,4 +120,19 @@ played-snap d =
     record {
       jerk-summed = sums-up _ _ _ _ (d .kept-snap .jerk-rest) (d .kept-snap .jerk-sum) (λ k l. refl);
       snap-most = d .kept-snap .snap-bound;
+    }
+
+-- In the third order the places are the sums of the jerk in its stretches, and there is no snap.
+pub record PlayedThird (m : Move) (snap : ℕ → ℤ) (table : List ℤ) : Type 0 where
+  pub switched : (k : ℕ) → k ≤ thirdSamplesOf m → getD table k (pos 0) ≡ sum (sum (sum (λ i. thirdValuesOf m i .jerk))) k
+  pub snap-none : (k : ℕ) → k ≤ thirdSamplesOf m → snap k ≡ pos 0
+
+pub played-third :
+    {m : Move} {sample : ℕ → Result ℕ Sample} {table : List ℤ} → 1 ≤ natAbs (m .displacement)
+    → (d : ThirdDemand3 m sample table)
+    → PlayedThird m (λ k. d .shared .at k .snap) table
+played-third moves d =
+    record {
+      switched = λ k l. played moves (d .shared) .summed k l ∙ sum-same _ _ _ (sum-same _ _ _ (sum-same _ _ _ (d .jerk-switched))) k l;
+      snap-none = d .snap-none;
     }

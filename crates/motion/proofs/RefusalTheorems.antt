@@ -14,12 +14,11 @@ use Rattle.planner.specs.Result.{Each, Result, refused, given, Check, check, fi
 use Rattle.planner.specs.Order.{FirstToApply}
 use Rattle.planner.specs.Third.{thirdIntervalsOf, thirdSamplesOf, thirdChecks}
 use Rattle.planner.specs.declared.Move.{Move}
-use Rattle.planner.proofs.Acceptance.{accepted-passes}
+use Rattle.planner.proofs.Acceptance.{accepted-passes, third-passes}
 use Rattle.planner.proofs.EachLaws.{each-joined}
 use Rattle.planner.proofs.OrderLaws.{first-given}
 use Rattle.planner.proofs.RefusalLaws.{Passes}
-use Rattle.planner.proofs.RuleRefusals.{Has, refusal-has, NotSix, third-never}
-use Rattle.planner.proofs.ThirdTheorems.{third-passes}
+use Rattle.planner.proofs.RuleRefusals.{Has, refusal-has, OtherThanSix, third-checks-other}
 use Rattle.motion.specs.Sampling.{thirdValuesOf, thirdExactTimesP, Motion, fourthOrder, thirdOrder, sampleWith, Samples}
 use Rattle.motion.specs.ForceRows.Machine.{Machine, machineAsRead, machineInRange}
 use Rattle.motion.specs.Tables.{machineCheck, rowsFrom, tableOf, tableResult, Fills, FillsPositions, FillsReference, FillsForce}
@@ -88,10 +87,10 @@ unfolding tableOf
 refused-leaves {rows} {row} {old} {n} f =
     f .table-is ∙ ap (λ (r : Result ℕ ℕ). tableOf r (rowsFrom row 0 rows) old) (sym (f .outcome-is))
 
-module _ (x : Motion) (h : Each Passes (x .refusals)) where
+module _ (x : Motion) (h : Each Passes (x .planChecks)) where
   sample-refusals : (k : ℕ) (o : Result ℕ Sample) → Samples x k o → RefusedBy o (Only 9 (x .samples < k))
   unfolding sampleWith
-  sample-refusals k o p = by-own (x .refusals) h (check 9 (ltb (x .samples) k) ∷ []) _ (p .outcome-is) (below-reason 9 (x .samples) k)
+  sample-refusals k o p = by-own (x .planChecks) h (check 9 (ltb (x .samples) k) ∷ []) _ (p .outcome-is) (below-reason 9 (x .samples) k)
 
   -- for positions and for reference rows
   table-refusals :
@@ -100,7 +99,7 @@ module _ (x : Motion) (h : Each Passes (x .refusals)) where
       → RefusedBy o (Only 8 (length old < rows))
   unfolding tableResult
   table-refusals {rows} {old} p =
-      by-own (x .refusals) h (check 8 (ltb (length old) rows) ∷ []) rows (p .outcome-is) (below-reason 8 (length old) rows)
+      by-own (x .planChecks) h (check 8 (ltb (length old) rows) ∷ []) rows (p .outcome-is) (below-reason 8 (length old) rows)
 
   force-refusals :
       (machine : Machine Float) {rows : ℕ} {row : ℕ → Float} {old new : List Float} {o : Result ℕ ℕ}
@@ -108,7 +107,7 @@ module _ (x : Motion) (h : Each Passes (x .refusals)) where
       → RefusedBy o (ForceReason machine rows (length old))
   unfolding tableResult
   force-refusals machine {rows} {old} p =
-      by-own (x .refusals) h (check 8 (ltb (length old) rows) ∷ machineCheck machine ∷ []) rows (p .outcome-is)
+      by-own (x .planChecks) h (check 8 (ltb (length old) rows) ∷ machineCheck machine ∷ []) rows (p .outcome-is)
       (force-reason machine rows (length old))
 
   refusals : AcceptedRefusals x
@@ -149,18 +148,18 @@ motion-order m =
     }
 
 -- no check of a third-order entry has the number 6
-never-six :
-    {A : Type 0} (m : Move) (n : ℕ) (t : Bool) (x : A) → NotSix n → refused 6 ≡ firstRefusal (thirdChecks m ++ (check n t ∷ [])) (given x) → ⊥
-never-six m n t x h q =
+third-never-six :
+    {A : Type 0} (m : Move) (n : ℕ) (t : Bool) (x : A) → OtherThanSix n → refused 6 ≡ firstRefusal (thirdChecks m ++ (check n t ∷ [])) (given x) → ⊥
+third-never-six m n t x h q =
     let own : List (Check ℕ) = check n t ∷ [] in
     omega (
       arith,
-      refusal-has NotSix (thirdChecks m ++ own) x (each-joined (Has NotSix) (thirdChecks m) own (third-never m) (h, tt)) 6 (sym q) .1,
+      refusal-has OtherThanSix (thirdChecks m ++ own) x (each-joined (Has OtherThanSix) (thirdChecks m) own (third-checks-other m) (h, tt)) 6 (sym q) .1,
     )
 
 table-never-six : (m : Move) {rows : ℕ} {row : ℕ → ℤ} {old new : List ℤ} → Fills (thirdOrder m) [] rows row old (refused 6) new → ⊥
 unfolding tableResult
-table-never-six m p = never-six m 8 _ _ (omega arith) (p .outcome-is)
+table-never-six m p = third-never-six m 8 _ _ (omega arith) (p .outcome-is)
 
 pub snap-unread-motion : (m : Move) → SnapUnreadMotionClaim m
 unfolding thirdSamplesOf thirdIntervalsOf thirdValuesOf thirdExactTimesP sampleWith FillsPositions FillsReference
@@ -169,7 +168,7 @@ snap-unread-motion m =
       sample = λ S₀ k o p. record { rounding = p .rounding; outcome-is = p .outcome-is };
       positions = λ S₀ old new o p. record { outcome-is = p .outcome-is; table-is = p .table-is };
       reference = λ S₀ old new o p. record { outcome-is = p .outcome-is; table-is = p .table-is };
-      sample-never-six = λ k p. never-six m 9 _ _ (omega arith) (p .outcome-is);
+      sample-never-six = λ k p. third-never-six m 9 _ _ (omega arith) (p .outcome-is);
       positions-never-six = λ old new p. table-never-six m p;
       reference-never-six = λ old new p. table-never-six m p;
     }

@@ -3,19 +3,14 @@ use mathlib.Core.List.{List, []}
 use mathlib.Core.Path.{refl, sym}
 use Prim.Native.Nat.{ℕ, _+_, _≤_}
 use native.Mathlib.Nat.{le-of-eq}
-use native.Mathlib.Omega.{arith}
 use lib.IntN.{ℤ, pos}
 use lib.ListN.{length, replicate, length-replicate}
 use Rattle.planner.specs.Result.{Result, Check}
-use Rattle.planner.specs.Quantities.{distance}
-use Rattle.planner.specs.Least.{firstFrom, least}
-use Rattle.planner.specs.Intervals.{interval-c, interval-e, A₁, c, V₁, e}
 use Rattle.planner.specs.Claims.{Accepted, mirrored}
-use Rattle.planner.specs.Third.{third-b, thirdIntervalsOf, thirdSamplesOf}
 use Rattle.planner.specs.ThirdClaims.{ThirdAccepted}
 use Rattle.planner.specs.declared.Move.{Move}
-use Rattle.planner.proofs.Mirror.{mirror}
-use Rattle.planner.proofs.StarredMoves.{firstStarred, first-accepted}
+use Rattle.planner.proofs.Mirror.{mirror, third-mirror}
+use Rattle.planner.proofs.StarredMoves.{firstStarred, first-accepted, first-third-accepted}
 use Rattle.motion.specs.Sampling.{Motion, fourthOrder, thirdOrder}
 use Rattle.motion.specs.Tables.{rowsFrom, tableOf, tableResult, Fills, FillsPositions}
 use Rattle.motion.specs.Demand3.{Demand3, ThirdDemand3}
@@ -73,22 +68,9 @@ demand-3-forward = rule-demand-3 firstStarred first-accepted
 pub demand-3-backward : Demand3 back (ruleSample (fourthOrder back)) (positions (fourthOrder back))
 demand-3-backward = rule-demand-3 back (mirror firstStarred .0 first-accepted)
 
--- and of the third order: its figures are in range, and its intervals are 1, 2 and 4
-pub third-forward : ThirdAccepted firstStarred
-unfolding thirdSamplesOf thirdIntervalsOf third-b c e A₁ V₁ interval-c interval-e least firstFrom distance
-third-forward =
-    let i = first-accepted .in-range in
-    record {
-      in-range =
-          record {
-            moves = i .moves;
-            near = i .near;
-            velocity = i .bounds .velocity;
-            acceleration = i .bounds .acceleration;
-            jerk = i .bounds .jerk;
-          };
-      short-enough = omega arith;
-    }
-
+-- and of the third order
 pub third-demand-3-forward : ThirdDemand3 firstStarred (ruleSample (thirdOrder firstStarred)) (positions (thirdOrder firstStarred))
-third-demand-3-forward = rule-third-demand-3 firstStarred third-forward
+third-demand-3-forward = rule-third-demand-3 firstStarred first-third-accepted
+
+pub third-demand-3-backward : ThirdDemand3 back (ruleSample (thirdOrder back)) (positions (thirdOrder back))
+third-demand-3-backward = rule-third-demand-3 back (third-mirror firstStarred .0 first-third-accepted)

@@ -9,7 +9,7 @@ use Rattle.motion.specs.declared.Sample.{Sample}
 use Rattle.motion.specs.Inner.Planned.{IsSampleOf}
 use Rattle.motion.proofs.RoundingLaws.{rounding-of}
 use Rattle.motion.proofs.RoundedValues.{withRounding, one-rounded-sample}
-use Rattle.motion.proofs.EntryLaws.{Planned, applies, passes}
+use Rattle.motion.proofs.EntryLaws.{PlannedAs, applies, passes}
 
 -- the rule's own outcome meets the promise, and no other
 module _ (x : Motion) (k : ℕ) where
@@ -25,19 +25,19 @@ module _ (x : Motion) (k : ℕ) where
       h .outcome-is ∙ ap (λ (s : Sample). firstRefusal (sampleChecks x k) (given s)) (one-rounded-sample (x .values k) (h .rounding))
 
   -- the planner's refusal is the entry's
-  pub sample-refused : {Y : Type 0} (y : Y) (n : ℕ) → refused n ≡ firstRefusal (x .refusals) (given y) → Samples x k (refused n)
+  pub sample-refused : {Y : Type 0} (y : Y) (n : ℕ) → refused n ≡ firstRefusal (x .planChecks) (given y) → Samples x k (refused n)
   unfolding sampleWith
-  sample-refused y n h = rule-samples (refused-on (x .refusals) _ y _ n h)
+  sample-refused y n h = rule-samples (refused-on (x .planChecks) _ y _ n h)
 
-module _ {x : Motion} {n : ℕ} {v : ℕ → Values} {k : ℕ} (f : Planned x n v) where
+module _ {x : Motion} {n : ℕ} {v : ℕ → Values} {k : ℕ} (f : PlannedAs x n v) where
   pub sample-past : n < k → Samples x k (refused 9)
   unfolding sampleWith
   sample-past l =
-      rule-samples x k (sym (applies (x .refusals) (f .pass) 9 _ _ (lt-ltb _ k (subst (λ (n : ℕ). n < k) (f .samples-are) l))))
+      rule-samples x k (sym (applies (x .planChecks) (f .pass) 9 _ _ (lt-ltb _ k (subst (λ (n : ℕ). n < k) (f .samples-are) l))))
 
   pub sample-given : {r : Sample} → k ≤ n → IsSampleOf (v k) r → Samples x k (given r)
   unfolding sampleWith
   sample-given l s =
       rule-samples x k
       (ap given (s .sample-is ∙ one-rounded-sample _ (s .rounding) ∙ ap withRounding (f .values-are k))
-      ∙ sym (passes (x .refusals) (f .pass) 9 _ _ (le-ltb _ k (subst (λ (n : ℕ). k ≤ n) (f .samples-are) l))))
+      ∙ sym (passes (x .planChecks) (f .pass) 9 _ _ (le-ltb _ k (subst (λ (n : ℕ). k ≤ n) (f .samples-are) l))))

@@ -12,7 +12,7 @@ use lib.ListN.{length, drop}
 use Rattle.profile.specs.Profile.{Sign, positive, none, negative, Segment, segment, level, segments}
 use Rattle.motion.specs.declared.segments.Durations.{Durations}
 use Rattle.motion.specs.declared.segments.Segment as code
-use Rattle.motion.specs.declared.snap.Levels.{Levels}
+use Rattle.motion.specs.declared.switched.Levels.{Levels}
 use Rattle.motion.specs.Inner.SegmentLists.{segmentsOf, SegmentAt}
 
 -- i is k or one of ks

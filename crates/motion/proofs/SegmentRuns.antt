@@ -1,19 +1,19 @@
 -- The run over a list of segments, one after the other.
-use mathlib.Core.List.{List, [], _∷_, _++_}
+use mathlib.Core.List.{List, _++_}
 use mathlib.Core.Path.{_≡_, refl, sym, ap, _∙_}
 use Prim.Native.Nat.{ℕ, _+_, _≤_, _<_}
 use native.Mathlib.Omega.{arith}
 use lib.IntN.{ℤ}
-use lib.ListN.{length, drop, replicate, drop-of-length-le}
+use lib.ListN.{length, take, drop, replicate, drop-of-length-le}
 use Rattle.planner.specs.Intervals.{Intervals}
 use Rattle.planner.specs.Third.{ThirdIntervals}
 use Rattle.profile.specs.Profile.{segments, sevenSegments}
 use Rattle.profile.specs.Profile as profile
 use Rattle.motion.specs.declared.segments.Durations.{Durations}
 use Rattle.motion.specs.declared.segments.Segment.{Segment}
-use Rattle.motion.specs.declared.snap.Levels.{Levels}
+use Rattle.motion.specs.declared.switched.Levels.{Levels}
 use Rattle.motion.specs.Inner.Runs.{Writer, CanRun, Ran}
-use Rattle.motion.specs.Inner.SnapLevels.{AreLevels}
+use Rattle.motion.specs.Inner.SwitchedLevels.{AreLevels}
 use Rattle.motion.specs.Inner.SegmentLists.{switchedList, IsDurations, AreThirdDurations, withTrailing, fourthSegments, thirdSegments, segmentsOf, SegmentAt}
 use Rattle.motion.proofs.RunLaws.{Remaining, all-left, can-part, part-done, none-left}
 use Rattle.motion.proofs.ListedLaws.{directedList}
@@ -30,14 +30,15 @@ sixteen d = refl
 
 -- the first eight of them, in the third order
 abbrev pub firstEight : Durations → List profile.Segment
-firstEight d = withTrailing (sevenSegments (d .p) (d .q) (d .r)) (d .s)
+firstEight d = take 8 (segmentsOf d)
 
 pub third-segments :
     {t : ThirdIntervals} {trailing : ℕ} {d : Durations} → AreThirdDurations t trailing d → firstEight d ≡ withTrailing (thirdSegments t) trailing
+unfolding segments sevenSegments
 third-segments h = rw (h .p-is, h .q-is, h .r-is, h .s-is) refl
 
 pub eight : (d : Durations) → length (firstEight d) ≡ 8
-unfolding sevenSegments
+unfolding segments
 eight d = refl
 
 pub in-eight :
@@ -45,7 +46,7 @@ pub in-eight :
     → i < 8
     → SegmentAt (segmentsOf d) levels i g
     → SegmentAt (firstEight d) levels i g
-unfolding segments sevenSegments
+unfolding segments
 in-eight d l h = in-front (firstEight d) (drop 8 (segmentsOf d)) l h
 
 -- the values from segment i on

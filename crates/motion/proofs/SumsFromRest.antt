@@ -1,5 +1,5 @@
 -- Document 01, demand 3, "Sums from rest", in the direction of X.
-use mathlib.Core.Path.{_≡_, sym, ap, ap₂, _∙_}
+use mathlib.Core.Path.{_≡_, refl, sym, ap, ap₂, _∙_}
 use Prim.Native.Nat.{ℕ, zero, suc, _+_, _≤_, _<_}
 use native.Mathlib.Numerals.{add-one}
 use native.Mathlib.Omega.{arith}
@@ -69,3 +69,8 @@ unfolding sum
 sums-up N f g h rest step same zero l = rest
 sums-up N f g h rest step same (suc k) l =
     ap f (sym (add-one k)) ∙ step k l ∙ ap₂ (λ x y. x +ℤ y) (sums-up N f g h rest step same k (omega arith)) (same k (omega arith))
+
+-- values that are the same up to N have the same sums there
+pub sum-same : (N : ℕ) (f g : ℕ → ℤ) → ((k : ℕ) → k ≤ N → f k ≡ g k) → (k : ℕ) → k ≤ N → sum f k ≡ sum g k
+unfolding sum
+sum-same N f g same = sums-up N (sum f) f g refl (λ k l. ap (sum f) (add-one k)) same

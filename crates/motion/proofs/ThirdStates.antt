@@ -1,25 +1,24 @@
 -- The sums of a third-order plan's jerk in the move's direction: the profile's values, and none leaves its range; and steps from rest.
-use mathlib.Core.List.{[], _∷_}
-use mathlib.Core.Path.{_≡_, refl, sym, ap, ap₂, subst, _∙_}
-use Prim.Native.Nat.{ℕ, suc, _+_, _*_, _≤_, _^_}
+use mathlib.Core.List.{[]}
+use mathlib.Core.Path.{_≡_, refl, sym, ap, ap₂, subst, _∙_, fun-ext}
+use Prim.Native.Nat.{ℕ, _+_, _≤_, _^_}
 use native.Mathlib.Numerals.{add-one}
-use native.Mathlib.Omega.{arith}
-use lib.IntN.{ℤ, pos, natAbs, +ℤ-idr}
+use lib.IntN.{ℤ, pos, +ℤ-idr}
 use Rattle.planner.specs.Quantities.{along}
 use Rattle.planner.specs.Third.{ThirdIntervals}
-use Rattle.planner.proofs.DirectionLaws.{size-along}
 use Rattle.profile.specs.Profile.{switchedIn, sum}
 use Rattle.profile.specs.Inner.Repeated.{sums}
 use Rattle.profile.specs.Inner.Widths.{product}
 use Rattle.profile.proofs.SizeLaws as size
-use Rattle.motion.specs.Sampling.{Values, thirdValuesAt}
+use Rattle.motion.specs.Sampling.{thirdValuesAt}
 use Rattle.motion.specs.declared.state.State.{State}
-use Rattle.motion.specs.Inner.Steps.{rest, StepFits, stepped, Sums, sumsIn, withJerk, summed, sumsAt, thirdStateAt}
+use Rattle.motion.specs.Inner.Steps.{rest, StepFits, stepped, sumsIn, withJerk, summed, sumsAt, thirdStateAt}
 use Rattle.motion.specs.Inner.Planned.{ThirdWithinRange, thirdWidthsOf, valuesIn}
 use Rattle.motion.specs.Inner.SegmentLists.{thirdSegments}
 use Rattle.motion.proofs.IntegerLaws.{small-fits}
 use Rattle.motion.proofs.OrderedLaws.{third-spread, thirdJerk, third-jerk}
-use Rattle.motion.proofs.StateLaws.{along-sums}
+use Rattle.motion.proofs.DirectedSizes.{along-sums, DirectedOver}
+use Rattle.motion.proofs.DirectedSizes as sizes
 use Rattle.motion.proofs.TableLaws.{directedValue}
 
 module _ (X : ℤ) (t : ThirdIntervals) (D : ℕ) where
@@ -36,58 +35,25 @@ module _ (X : ℤ) (t : ThirdIntervals) (D : ℕ) where
       λ i.
       record { snap = pos 0; jerk = directedJerk k; acceleration = sums-are 1 k i; velocity = sums-are 2 k i; position = sums-are 3 k i }
 
+  directed-jerk : directedJerk ≡ (λ k. along X (thirdJerk t D k))
+  directed-jerk = fun-ext (λ k. ap (λ (f : ℕ → ℤ). along X (f k)) (third-jerk t D))
+
   module _ (h : ThirdWithinRange t D) where
-    abbrev jerk : ℕ → ℤ
-    jerk = thirdJerk t D
-
-    size-is : (n k : ℕ) → natAbs (sums n directedJerk k) ≡ natAbs (sums n jerk k)
-    size-is n k =
-        ap natAbs (sums-are n k) ∙ size-along X (sums n (switchedIn (thirdSegments t) D) k)
-        ∙ ap (λ (f : ℕ → ℤ). natAbs (sums n f k)) (third-jerk t D)
-
-    reach : D * product (t .b) (thirdWidthsOf t) ≤ 2 ^ 60
-    unfolding product
-    reach = h .reach
-
-    -- every size on the way is at most the last position
-    module _ (k : ℕ) where
-      speed : D * product (t .b) (t .c ∷ []) ≤ 2 ^ 60
-      speed = size.reach-speed (t .b) D (h .ordered .one-b) [] (t .c) (t .e) (2 ^ 60) (third-spread (h .ordered)) k reach
-
-      jerk-below : natAbs (sums 0 directedJerk k) ≤ 2 ^ 60
-      unfolding sums
-      jerk-below = rw (size-is 0 k) (size.jerk-most (t .b) D (h .ordered .one-b) [] (t .c) (t .e) (2 ^ 60) (third-spread (h .ordered)) k speed)
-
-      acceleration-below : natAbs (sums 1 directedJerk k) ≤ 2 ^ 60
-      unfolding sums
-      acceleration-below =
-          rw (size-is 1 k) (size.acceleration-most (t .b) D (h .ordered .one-b) [] (t .c) (t .e) (2 ^ 60) (third-spread (h .ordered)) k speed)
-
-      velocity-below : natAbs (sums 2 directedJerk k) ≤ 2 ^ 60
-      unfolding sums
-      velocity-below =
-          rw (size-is 2 k) (size.velocity-most (t .b) D (h .ordered .one-b) [] (t .c) (t .e) (2 ^ 60) (third-spread (h .ordered)) k speed)
-
-      position-below : natAbs (sums 3 directedJerk k) ≤ 2 ^ 60
-      unfolding sums
-      position-below =
-          rw (size-is 3 k) (size.position-most (t .b) D (h .ordered .one-b) [] (t .c) (t .e) (2 ^ 60) (third-spread (h .ordered)) k reach)
+    over : DirectedOver X (t .b) [] (t .c) (t .e) D directedJerk
+    over = record { one = h .ordered .one-b; spread = third-spread (h .ordered); is = directed-jerk }
 
     pub third-step-fits : (k : ℕ) → k ≤ 2 ^ 60 → StepFits (thirdStateAt directedJerk k) (pos 0)
-    unfolding sum sums
+    unfolding product
     third-step-fits k l =
-        record {
-          sample = record { fits = omega arith };
-          jerk = rw (+ℤ-idr (directedJerk k)) (small-fits _ (jerk-below k));
-          acceleration = small-fits _ (acceleration-below (suc k));
-          velocity = small-fits _ (velocity-below (suc k));
-          position = small-fits _ (position-below (suc k));
-        }
+        let speed = sizes.reach-speed over (h .reach) in
+        sizes.sums-fit over (h .reach) k l (pos 0)
+        (rw (+ℤ-idr (directedJerk k))
+        (small-fits _ (sizes.jerk-below over (2 ^ 60) speed k)))
 
     pub jerk-small : D ≤ 2 ^ 60
     unfolding product
     jerk-small =
-        size.inner-most (t .b) D (h .ordered .one-b) (2 ^ 60) D (thirdWidthsOf t) [] (third-spread (h .ordered)) reach
+        size.inner-most (t .b) D (h .ordered .one-b) (2 ^ 60) D (thirdWidthsOf t) [] (third-spread (h .ordered)) (h .reach)
         (size.one-step (t .b) D (h .ordered .one-b))
 
 -- Steps from rest over a jerk f.

@@ -16,7 +16,7 @@ use Rattle.planner.specs.declared.Plan.{Plan}
 use Rattle.motion.specs.Sampling.{fourthOrder, Samples}
 use Rattle.motion.specs.Axes.{restSample, axisExact, SamplesAxes, axesSampleOutcome}
 use Rattle.motion.specs.Claims.{Only, RefusedBy, EndRemainder}
-use Rattle.motion.specs.Demand3.{KeptSnap, Kept, IsExactProfile}
+use Rattle.motion.specs.Demand3.{KeptSnap, Kept, ExactIn}
 use Rattle.motion.specs.declared.Sample.{Sample}
 use Rattle.motion.specs.declared.AxesSample.{AxesSample}
 
@@ -29,7 +29,7 @@ pub record KeptAxis (n : ℕ) (m : Move) (at : ℕ → Sample) : Type 0 where
 
 -- What E is of a moving axis: the exact profile of its raised intervals.
 abbrev pub AxisExactProfileClaim : Type 0
-AxisExactProfileClaim = (n : ℕ) (m : Move) → Moving m → IsExactProfile m (raised n (intervalsOf m)) (axisExact n m)
+AxisExactProfileClaim = (n : ℕ) (m : Move) → Moving m → ExactIn m (raised n (intervalsOf m)) (axisExact n m)
 
 module _ (count : ℕ) (moves : List Move) where
   -- The set was planned with the common N and these plans, and `samples k` is what its one-sample entry gives at each k.

@@ -1,6 +1,7 @@
 -- What the promises of the entries come to, over any answers that meet them: one answer (`one-motion-answer`); when a call with an accepted
--- move is refused (`accepted-refusals`); that a refusal writes nothing (`untouched`); the order of each entry's checks (`motion-order`); the
--- remainder at the last sample (`end-remainder`, `third-end-remainder`); and that the third order does not read S (`snap-unread-motion`).
+-- move is refused (`accepted-refusals`); that a refusal writes nothing (`untouched`); the order of each entry's checks (`motion-order`);
+-- the remainder at the last sample (`end-remainder`, `third-end-remainder`); and that the third order does not read S
+-- (`snap-unread-motion`).
 use mathlib.Core.Bool.{false}
 use mathlib.Core.List.{List, [], _∷_}
 use mathlib.Core.Logic.{_⊎_, _↔_}

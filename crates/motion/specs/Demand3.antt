@@ -11,11 +11,11 @@ use Rattle.planner.specs.Intervals.{Intervals, p, q, r, s, N, P}
 use Rattle.planner.specs.Result.{Result, given}
 use Rattle.planner.specs.Outcome.{distanceOf, intervalsOf, samplesOf}
 use Rattle.planner.specs.Claims.{Accepted}
-use Rattle.planner.specs.Third.{P₃, thirdIntervalsOf, thirdSamplesOf}
+use Rattle.planner.specs.Third.{ThirdIntervals, N₃, P₃, thirdIntervalsOf, thirdSamplesOf}
 use Rattle.planner.specs.ThirdClaims.{ThirdAccepted}
 use Rattle.planner.specs.declared.Move.{Move}
-use Rattle.profile.specs.Profile.{segments, switchedIn, sum}
-use Rattle.motion.specs.Sampling.{exactPositionTimesP, thirdExactTimesP, unitsOf, Motion, fourthOrder, thirdOrder, Samples}
+use Rattle.profile.specs.Profile.{segments, sevenSegments, switchedIn, sum}
+use Rattle.motion.specs.Sampling.{exactPositionTimesP, thirdValuesOf, thirdExactTimesP, unitsOf, Motion, fourthOrder, thirdOrder, Samples}
 use Rattle.motion.specs.Tables.{FillsPositions}
 use Rattle.motion.specs.declared.Sample.{Sample}
 
@@ -78,9 +78,10 @@ pub record Demand3 (m : Move) (sample : ℕ → Result ℕ Sample) (table : List
   pub shared : Demand3Of m (fourthOrder m) sample table
   pub kept-snap : KeptSnap m (samplesOf m) (shared .at)
 
--- The third order (document 02, 3) has none: the jerk at sample 0 is "as its stretches say", and the snap "is given as 0".
+-- The third order (document 02, 3) has none. Its jerk, at sample 0 too, is "as its stretches say", and its snap "is given as 0".
 pub record ThirdDemand3 (m : Move) (sample : ℕ → Result ℕ Sample) (table : List ℤ) : Type 0 where
   pub shared : Demand3Of m (thirdOrder m) sample table
+  pub jerk-switched : (k : ℕ) → k ≤ thirdSamplesOf m → shared .at k .jerk ≡ thirdValuesOf m k .jerk
   pub snap-none : (k : ℕ) → k ≤ thirdSamplesOf m → shared .at k .snap ≡ pos 0
 
 -- For every accepted move: every function of k that meets the one-sample entry's promise at each k from 0 to N, and every table of at
@@ -102,19 +103,27 @@ Demand3Claim = Demand3For Accepted fourthOrder Demand3
 abbrev pub ThirdDemand3Claim : Type 0
 ThirdDemand3Claim = Demand3For ThirdAccepted thirdOrder ThirdDemand3
 
--- "the profile with W for D": a snap of size W in the stretches.
-abbrev pub exactSnap : Move → Intervals → ℕ → ℤ
-exactSnap m t = switchedIn (segments (p t) (q t) (r t) (s t)) (distanceOf m)
+-- "the profile with W for D": the jerk that a snap of size W in the stretches sums up to, and in the third order a jerk of size W in its own.
+abbrev pub exactJerk : Move → Intervals → ℕ → ℤ
+exactJerk m t = sum (switchedIn (segments (p t) (q t) (r t) (s t)) (distanceOf m))
 
--- What E is in the intervals t: summed four times from rest, in the direction of X; and at sample N it is P·G·X.
-pub record IsExactProfile (m : Move) (t : Intervals) (E : ℕ → ℤ) : Type 0 where
-  pub summed : (k : ℕ) → E k ≡ along (m .displacement) (sum (sum (sum (sum (exactSnap m t)))) k)
-  pub at-end : E (N t) ≡ pos (P t) *ℤ unitsOf (m .displacement)
+abbrev pub thirdExactJerk : Move → ThirdIntervals → ℕ → ℤ
+thirdExactJerk m t = switchedIn (sevenSegments (t .b) (t .c) (t .e)) (distanceOf m)
+
+-- What E is: that jerk summed three times from rest, in the direction of X; and at sample N it is P·G·X.
+pub record IsExactProfile (m : Move) (N P : ℕ) (jerk E : ℕ → ℤ) : Type 0 where
+  pub summed : (k : ℕ) → E k ≡ along (m .displacement) (sum (sum (sum jerk)) k)
+  pub at-end : E N ≡ pos P *ℤ unitsOf (m .displacement)
+
+-- In four intervals.
+abbrev pub ExactIn : Move → Intervals → (E : ℕ → ℤ) → Type 0
+ExactIn m t = IsExactProfile m (N t) (P t) (exactJerk m t)
 
 abbrev pub ExactProfileClaim : Type 0
-ExactProfileClaim = (m : Move) → IsExactProfile m (intervalsOf m) (exactPositionTimesP m)
+ExactProfileClaim = (m : Move) → ExactIn m (intervalsOf m) (exactPositionTimesP m)
 
--- In the third order E is by its definition the sum of a jerk of size W; this is what it comes to at sample N.
 abbrev pub ThirdExactProfileClaim : Type 0
 ThirdExactProfileClaim =
-    (m : Move) → thirdExactTimesP m (thirdSamplesOf m) ≡ pos (P₃ (thirdIntervalsOf m)) *ℤ unitsOf (m .displacement)
+    (m : Move)
+    → let t = thirdIntervalsOf m in
+    IsExactProfile m (N₃ t) (P₃ t) (thirdExactJerk m t) (thirdExactTimesP m)

@@ -1,6 +1,6 @@
 -- What only proofs and the contracts of private functions cite. No rule of the paper stands below here, and no promise of an entry rests
 -- on it.
-pub mod SnapLevels
+pub mod SwitchedLevels
 pub mod InnerSamples
 pub mod Steps
 pub mod Planned

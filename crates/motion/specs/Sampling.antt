@@ -2,7 +2,7 @@
 -- values in the third order.
 use mathlib.Core.List.{List, [], _∷_, _++_}
 use mathlib.Core.Path.{_≡_}
-use Prim.Native.Nat.{ℕ, _-_, _*_, _≤_, _<_}
+use Prim.Native.Nat.{ℕ, _*_, _≤_, _<_}
 use lib.Dec.{ltb}
 use lib.IntN.{ℤ, pos, natAbs, _+ℤ_, _*ℤ_}
 use Rattle.planner.specs.Quantities.{unitsPerCount, along}
@@ -36,7 +36,7 @@ valuesAt X t D k =
 -- The same in the third order, with a jerk of size D: "Three sums replace four", and "A sample's snap is given as 0".
 unfoldable pub thirdValuesAt : (X : ℤ) (t : ThirdIntervals) (D k : ℕ) → Values
 thirdValuesAt X t D k =
-    let jerk = switchedIn (sevenSegments (t .b) (t .c - t .b) (t .e - t .b - t .c)) D in
+    let jerk = switchedIn (sevenSegments (t .b) (t .c) (t .e)) D in
     record {
       snap = pos 0;
       jerk = along X (jerk k);
@@ -61,9 +61,9 @@ module _ (m : Move) where
   unfoldable pub thirdExactTimesP : (k : ℕ) → ℤ
   thirdExactTimesP k = thirdValuesAt (m .displacement) (thirdIntervalsOf m) (distanceOf m) k .position
 
--- What the rules of one order say of a move: the planner's refusals, N, P, the values at each sample, and E.
+-- What the rules of one order say of a move: the planner's checks, N, P, the values at each sample, and E.
 pub record Motion : Type 0 where
-  pub refusals : List (Check ℕ)
+  pub planChecks : List (Check ℕ)
   pub samples : ℕ
   pub product : ℕ
   pub values : (k : ℕ) → Values
@@ -72,7 +72,7 @@ pub record Motion : Type 0 where
 abbrev pub fourthOrder : Move → Motion
 fourthOrder m =
     record {
-      refusals = checks m;
+      planChecks = checks m;
       samples = samplesOf m;
       product = P (intervalsOf m);
       values = valuesOf m;
@@ -82,7 +82,7 @@ fourthOrder m =
 abbrev pub thirdOrder : Move → Motion
 thirdOrder m =
     record {
-      refusals = thirdChecks m;
+      planChecks = thirdChecks m;
       samples = thirdSamplesOf m;
       product = P₃ (thirdIntervalsOf m);
       values = thirdValuesOf m;
@@ -120,9 +120,9 @@ sampleOf v r =
 
 -- Of a move in either order.
 module _ (x : Motion) (k : ℕ) where
-  -- The planner's refusals, then 9: "sample asked above N".
+  -- The planner's checks, then 9: "sample asked above N".
   abbrev pub sampleChecks : List (Check ℕ)
-  sampleChecks = x .refusals ++ (check 9 (ltb (x .samples) k) ∷ [])
+  sampleChecks = x .planChecks ++ (check 9 (ltb (x .samples) k) ∷ [])
 
   unfoldable pub sampleWith : Rounding (x .values k .position) → Result ℕ Sample
   sampleWith r = firstRefusal sampleChecks (given (sampleOf (x .values k) r))

@@ -31,9 +31,9 @@ machineCheck machine = check 10 (not (machineInRange (machineAsRead machine)))
 
 -- Of a move in either order.
 module _ (x : Motion) where
-  -- The planner's refusals, then 8: the table has fewer places than there are rows; then the entry's own; else how many rows were written.
+  -- The planner's checks, then 8: the table has fewer places than there are rows; then the entry's own; else how many rows were written.
   abbrev pub tableChecks : (own : List (Check ℕ)) (rows places : ℕ) → List (Check ℕ)
-  tableChecks own rows places = x .refusals ++ (check 8 (ltb places rows) ∷ own)
+  tableChecks own rows places = x .planChecks ++ (check 8 (ltb places rows) ∷ own)
 
   unfoldable pub tableResult : (own : List (Check ℕ)) (rows places : ℕ) → Result ℕ ℕ
   tableResult own rows places = firstRefusal (tableChecks own rows places) (given rows)

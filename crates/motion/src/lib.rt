@@ -7,9 +7,9 @@ mod planned;
 mod positions;
 mod refusal;
 mod segments;
-mod snap;
 mod state;
 mod sums;
+mod switched;
 mod third;
 
 use crate::axes::sample_axis;

@@ -1,5 +1,5 @@
 // The segments of a profile.
-use crate::snap::Levels;
+use crate::switched::Levels;
 use planner::Plan;
 use planner::ThirdPlan;
 ghost use Prim.Native.Nat.{_<_};

@@ -30,7 +30,7 @@ pub(crate) fn step(state: State, snap: i64) -> State
 }
 
 // The state with this jerk: the third order does not sum it.
-pub(crate) fn holding(state: State, jerk: i64) -> State
+pub(crate) fn with_jerk(state: State, jerk: i64) -> State
     ensures { λ r. ⌜ r ≡ withJerk (sumsIn state) jerk ⌝ }
 {
     State {

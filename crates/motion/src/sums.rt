@@ -1,12 +1,12 @@
 // One sample of a plan, by sums from rest.
 use crate::Sample;
 use crate::count::round_to_count;
-use crate::snap::Levels;
-use crate::snap::levels_of;
-use crate::snap::snap_at;
 use crate::state::State;
 use crate::state::at_rest;
 use crate::state::step;
+use crate::switched::Levels;
+use crate::switched::levels_of;
+use crate::switched::snap_at;
 use planner::Plan;
 ghost use mathlib.Core.Path.{_≡_};
 ghost use Prim.Native.Nat.{_≤_};

@@ -20,19 +20,19 @@ use Rattle.nitswolan.specs.Fields.{Answers, sampleFields, tableFields}
 use Rattle.nitswolan.specs.Claims.{CallerFacts, CallerFor, CallerClaim}
 use Rattle.nitswolan.specs.declared.sample.SampleResult.{SampleResult}
 use Rattle.nitswolan.specs.declared.table.TableResult.{TableResult}
-use Rattle.nitswolan.proofs.PlanLaws.{Reading, fourth, third}
+use Rattle.nitswolan.proofs.PlanLaws.{CallerOrder, fourth, third}
 
 -- a table with room is filled whole
 filled-all :
     (x : Motion) (old new : List ℤ) {t : TableResult}
-    → Each Passes (x .refusals)
+    → Each Passes (x .planChecks)
     → x .samples + 1 ≤ length old
     → Answers tableFields (λ o. FillsPositions x old o new) t
     → t ≡ tableFields (given (x .samples + 1))
 unfolding FillsPositions
 filled-all x old new p l f = f .fields-are ∙ ap tableFields (filled-outcome p l tt (f .promised))
 
-pub caller-by : {R : Type 0} (p : Reading R) → CallerFor (p .refusal) (p .samples) (p .Promise) (p .order) (p .Demand)
+pub caller-by : {R : Type 0} (p : CallerOrder R) → CallerFor (p .refusal) (p .samples) (p .Promise) (p .order) (p .Demand)
 caller-by p m plan h r sample promised old new t room f =
     let x : Motion = p .order m in
     let a = p .accepts m plan h .0 r in

@@ -12,11 +12,11 @@ use Rattle.planner.specs.ThirdClaims.{ThirdAccepted}
 use Rattle.planner.specs.declared.Move.{Move}
 use Rattle.planner.specs.declared.Plan.{Plan}
 use Rattle.planner.specs.declared.ThirdPlan.{ThirdPlan}
-use Rattle.planner.proofs.Acceptance.{acceptance, accepted-passes}
+use Rattle.planner.proofs.Acceptance.{acceptance, accepted-passes, third-acceptance, third-passes}
 use Rattle.planner.proofs.PlannedFacts.{planned-facts}
 use Rattle.planner.proofs.RefusalLaws.{Passes}
 use Rattle.planner.proofs.RuleRefusals.{refused-most, third-not-six}
-use Rattle.planner.proofs.ThirdTheorems.{third-acceptance, third-facts, third-passes}
+use Rattle.planner.proofs.ThirdTheorems.{third-facts}
 use Rattle.motion.specs.Demand3.{Demand3For, Demand3, ThirdDemand3}
 use Rattle.motion.specs.Sampling.{Motion, fourthOrder, thirdOrder}
 use Rattle.motion.specs.declared.Sample.{Sample}
@@ -46,7 +46,7 @@ third-from-one {m} o h n q = third-not-six m n (sym (h .outcome-is) ∙ q) .0
 
 -- an order as a caller meets it: the struct R of its plans with the refusal and N, their promise, acceptance, the motion and demand 3; and
 -- what the theorems for a caller need of it
-pub record Reading (R : Type 0) : Type 1 where
+pub record CallerOrder (R : Type 0) : Type 1 where
   pub refusal : R → ℕ
   pub samples : R → ℕ
   pub Promise : Move → R → Type 0
@@ -55,10 +55,10 @@ pub record Reading (R : Type 0) : Type 1 where
   pub Demand : Move → (ℕ → Result ℕ Sample) → List ℤ → Type 0
   pub accepts : (m : Move) (plan : R) → Promise m plan → (refusal plan ≡ 0) ↔ Accepts m
   pub samples-are : (m : Move) (plan : R) → Promise m plan → refusal plan ≡ 0 → samples plan ≡ order m .samples
-  pub passes : (m : Move) → Accepts m → Each Passes (order m .refusals)
+  pub passes : (m : Move) → Accepts m → Each Passes (order m .planChecks)
   pub demand : Demand3For Accepts order Demand
 
-abbrev pub fourth : Reading PlanResult
+abbrev pub fourth : CallerOrder PlanResult
 fourth =
     record {
       refusal = λ r. r .refusal;
@@ -77,7 +77,7 @@ fourth =
       demand = demand-3;
     }
 
-abbrev pub third : Reading ThirdPlanResult
+abbrev pub third : CallerOrder ThirdPlanResult
 third =
     record {
       refusal = λ r. r .refusal;

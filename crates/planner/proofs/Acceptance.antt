@@ -1,65 +1,101 @@
--- Demand 2: "a move is accepted if its figures are in range and its rule needs at most 4,096 samples, and otherwise not".
-use mathlib.Core.Logic.{_↔_}
+-- Demand 2: "a move is accepted if its figures are in range and its rule needs at most 4,096 samples, and otherwise not", in either order.
+use mathlib.Core.Logic.{_↔_, Iff·trans}
 use mathlib.Core.List.{List, [], _∷_}
-use mathlib.Core.Path.{_≡_, refl, sym, subst, _∙_}
+use mathlib.Core.Path.{_≡_, refl}
 use Prim.Native.Nat.{ℕ}
-use native.Mathlib.Nat.{pos-of-ne-zero}
-use native.Mathlib.Omega.{arith}
-use borrow.Author.Tests.{ne-eqb, le-ltb, ltb-false, eqb-false}
+use borrow.Author.Tests.{le-ltb, ltb-false}
 use lib.Dec.{ltb}
-use lib.IntN.{natAbs}
-use Rattle.planner.specs.Result.{Each, Result, refused, given, Check, check}
-use Rattle.planner.specs.Outcome.{mostCounts, mostSamples, boundChecks, samplesOf, distanceOf, intervalsOf, planOf, checks, outcomeOf}
+use Rattle.planner.specs.Result.{Each, given, Check, check}
+use Rattle.planner.specs.Outcome.{mostSamples, outOfRange, samplesOf, distanceOf, intervalsOf, planOf, checks, outcomeOf}
 use Rattle.planner.specs.Claims.{Accepted, IsPlanned, AcceptanceClaim}
+use Rattle.planner.specs.Third.{thirdIntervalsOf, thirdSamplesOf, thirdPlanOf, thirdChecks, thirdOutcomeOf}
+use Rattle.planner.specs.ThirdClaims.{ThirdInRange, ThirdAccepted, ThirdAcceptanceClaim}
+use Rattle.planner.specs.Inner.Undivided.{figureChecks}
 use Rattle.planner.specs.declared.Move.{Move}
-use Rattle.planner.specs.declared.Plan.{Plan}
 use Rattle.planner.proofs.EachLaws.{each-joined, each-parts}
-use Rattle.planner.proofs.RefusalLaws.{Passes, passed, all-pass, bounds-in-range, bounds-pass}
+use Rattle.planner.proofs.RefusalLaws.{Passes, all-pass, given-passes, bound-in-range, bound-passes}
+use Rattle.planner.proofs.FiguresChecks.{figures-in-range, figures-pass}
 
 module _ (m : Move) where
+  -- the figures that both orders read, and what each order asks after them
+  abbrev figures : List (Check ℕ)
+  figures = figureChecks (m .displacement) (m .velocity) (m .acceleration) (m .jerk)
+
   abbrev last : List (Check ℕ)
-  last = check 7 (ltb mostSamples (samplesOf m)) ∷ []
+  last = check 6 (outOfRange (m .snap)) ∷ check 7 (ltb mostSamples (samplesOf m)) ∷ []
+
+  abbrev third-last : List (Check ℕ)
+  third-last = check 7 (ltb mostSamples (thirdSamplesOf m)) ∷ []
 
   pub passed-accepted : Each Passes (checks m) → Accepted m
   passed-accepted p =
-      let rest = each-parts Passes (boundChecks (m .velocity) (m .acceleration) (m .jerk) (m .snap)) last (p .1 .1) in
+      let parts = each-parts Passes figures last p in
+      let i = figures-in-range m (parts .0) in
       record {
         in-range =
             record {
-              moves = pos-of-ne-zero (eqb-false (natAbs (m .displacement)) 0 (p .0));
-              near = ltb-false mostCounts (natAbs (m .displacement)) (p .1 .0);
-              bounds = bounds-in-range (rest .0);
+              moves = i .moves;
+              near = i .near;
+              bounds =
+                  record {
+                    velocity = i .velocity;
+                    acceleration = i .acceleration;
+                    jerk = i .jerk;
+                    snap = bound-in-range _ (parts .1 .0);
+                  };
             };
-        short-enough = ltb-false mostSamples (samplesOf m) (rest .1 .0);
+        short-enough = ltb-false mostSamples (samplesOf m) (parts .1 .1 .0);
+      }
+
+  pub accepted-figures : Accepted m → ThirdInRange m
+  accepted-figures h =
+      let i = h .in-range in
+      record {
+        moves = i .moves;
+        near = i .near;
+        velocity = i .bounds .velocity;
+        acceleration = i .bounds .acceleration;
+        jerk = i .bounds .jerk;
       }
 
   pub accepted-passes : Accepted m → Each Passes (checks m)
   accepted-passes h =
-      let i = h .in-range in (
-        ne-eqb (natAbs (m .displacement)) 0 (λ q. omega (arith, i .moves)),
-        (
-          le-ltb mostCounts (natAbs (m .displacement)) (i .near),
-          each-joined Passes (boundChecks (m .velocity) (m .acceleration) (m .jerk) (m .snap)) last (bounds-pass (i .bounds))
-              (le-ltb mostSamples (samplesOf m) (h .short-enough), tt),
-        ),
-      )
+      each-joined Passes figures last (figures-pass m (accepted-figures h))
+      (bound-passes _ (h .in-range .bounds .snap), (le-ltb mostSamples (samplesOf m) (h .short-enough), tt))
+
+  pub third-passed : Each Passes (thirdChecks m) → ThirdAccepted m
+  third-passed p =
+      let parts = each-parts Passes figures third-last p in
+      record {
+        in-range = figures-in-range m (parts .0);
+        short-enough = ltb-false mostSamples (thirdSamplesOf m) (parts .1 .0);
+      }
+
+  pub third-passes : ThirdAccepted m → Each Passes (thirdChecks m)
+  third-passes h =
+      each-joined Passes figures third-last (figures-pass m (h .in-range))
+      (le-ltb mostSamples (thirdSamplesOf m) (h .short-enough), tt)
 
   -- the plan of the rule's own intervals
   pub accepted-outcome : Accepted m → outcomeOf m ≡ given (planOf (distanceOf m) (intervalsOf m))
   unfolding outcomeOf
   accepted-outcome h = all-pass (checks m) _ (accepted-passes h)
 
-  planned-passes : (o : Result ℕ Plan) → o ≡ outcomeOf m → IsPlanned o → Each Passes (checks m)
-  unfolding outcomeOf
-  planned-passes (refused number) q h = absurd h
-  planned-passes (given x) q h = passed (checks m) _ x (sym q)
+  pub third-accepted-outcome : ThirdAccepted m → thirdOutcomeOf m ≡ given (thirdPlanOf (distanceOf m) (thirdIntervalsOf m))
+  unfolding thirdOutcomeOf
+  third-accepted-outcome h = all-pass (thirdChecks m) _ (third-passes h)
 
 pub acceptance : AcceptanceClaim
-acceptance m o h = (
-  λ p. passed-accepted m (planned-passes m o (h .outcome-is) p),
-  λ k. subst IsPlanned (sym (h .outcome-is ∙ accepted-outcome m k)) tt,
-)
+unfolding outcomeOf
+acceptance m o h = Iff·trans (given-passes (checks m) _ (h .outcome-is)) (passed-accepted m, accepted-passes m)
+
+pub third-acceptance : ThirdAcceptanceClaim
+unfolding thirdOutcomeOf
+third-acceptance m o h = Iff·trans (given-passes (thirdChecks m) _ (h .outcome-is)) (third-passed m, third-passes m)
 
 -- of the rule's own outcome
 pub rule-accepted : (m : Move) → IsPlanned (outcomeOf m) ↔ Accepted m
 rule-accepted m = acceptance m (outcomeOf m) (record { outcome-is = refl })
+
+pub third-rule-accepted : (m : Move) → IsPlanned (thirdOutcomeOf m) ↔ ThirdAccepted m
+third-rule-accepted m = third-acceptance m (thirdOutcomeOf m) (record { outcome-is = refl })

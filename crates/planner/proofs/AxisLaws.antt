@@ -1,14 +1,15 @@
 -- Laws of one axis: at rest its bounds alone are asked, and else its move.
 use borrow.Author.Tests.{eq-eqb, ne-eqb, eqb-true, eqb-false}
 use mathlib.Core.Bool.{Bool, true, false, cond}
+use mathlib.Core.List.{List}
 use mathlib.Core.Path.{_≡_, refl, sym, ap, ap₂, subst, _∙_}
 use Prim.Native.Nat.{ℕ, _≤_}
 use native.Mathlib.Nat.{pos-of-ne-zero}
 use native.Mathlib.Omega.{arith}
 use lib.IntN.{natAbs}
 use Rattle.planner.specs.Intervals.{N}
-use Rattle.planner.specs.Result.{refused, given, Each, firstRefusal}
-use Rattle.planner.specs.Outcome.{mostSamples, intervalsIn, samplesOf}
+use Rattle.planner.specs.Result.{refused, given, Each, Check, firstRefusal}
+use Rattle.planner.specs.Outcome.{mostSamples, boundChecks, intervalsIn, samplesOf}
 use Rattle.planner.specs.Axes.{restPlan, atRest, axisChecks, ownSamples}
 use Rattle.planner.specs.AxesClaims.{Moving, Resting, AcceptedAxis}
 use Rattle.planner.specs.Inner.Undivided.{undividedResult, boundsResult}
@@ -16,7 +17,6 @@ use Rattle.planner.specs.Inner.AxisAnswers.{undividedAxis, axisResult}
 use Rattle.planner.specs.declared.Move.{Move}
 use Rattle.planner.specs.declared.Plan.{Plan}
 use Rattle.planner.proofs.RefusalLaws.{Passes, passed, passed-same, all-pass, same-refusal, bounds-in-range, bounds-pass}
-use Rattle.planner.proofs.FiguresChecks.{ownBounds, boundsOf}
 use Rattle.planner.proofs.Acceptance.{passed-accepted, accepted-passes}
 
 -- one of two, by a test
@@ -36,6 +36,10 @@ both P true h l = h
 both P false h l = l
 
 module _ (m : Move) where
+  -- refusals 3 to 6 of the move
+  abbrev ownBounds : List (Check ℕ)
+  ownBounds = boundChecks (m .velocity) (m .acceleration) (m .jerk) (m .snap)
+
   pub by-rest : {P : Type 0} → (atRest m ≡ true → P) → (atRest m ≡ false → P) → P
   by-rest = either (atRest m)
 
@@ -63,7 +67,7 @@ module _ (m : Move) where
       (λ q. subst (Each Passes) (sym (chosen _ _ q)) (accepted-passes m (h .moving (rest-moving q))))
 
   -- what `undivided_axis` answers
-  resting-is : atRest m ≡ true → axisResult m ≡ firstRefusal (ownBounds m) (given restPlan)
+  resting-is : atRest m ≡ true → axisResult m ≡ firstRefusal (ownBounds) (given restPlan)
   unfolding axisResult
   resting-is h = ap₂ (λ xs t. firstRefusal xs (given t)) (chosen _ _ h) (chosen _ _ h)
 
@@ -71,13 +75,13 @@ module _ (m : Move) where
   unfolding undividedResult axisResult
   moving-is h = ap₂ (λ xs t. firstRefusal xs (given t)) (chosen _ _ h) (chosen _ _ h)
 
-  pub resting-refused : (n : ℕ) → atRest m ≡ true → refused n ≡ boundsOf m → refused n ≡ axisResult m
+  pub resting-refused : (n : ℕ) → atRest m ≡ true → refused n ≡ boundsResult ownBounds → refused n ≡ axisResult m
   unfolding boundsResult
-  resting-refused n h q = sym (resting-is h ∙ same-refusal (ownBounds m) tt _ n (sym q))
+  resting-refused n h q = sym (resting-is h ∙ same-refusal (ownBounds) tt _ n (sym q))
 
-  pub resting-found : atRest m ≡ true → given tt ≡ boundsOf m → given restPlan ≡ axisResult m
+  pub resting-found : atRest m ≡ true → given tt ≡ boundsResult ownBounds → given restPlan ≡ axisResult m
   unfolding boundsResult
-  resting-found h q = sym (resting-is h ∙ all-pass (ownBounds m) _ (passed (ownBounds m) _ _ (sym q)))
+  resting-found h q = sym (resting-is h ∙ all-pass (ownBounds) _ (passed (ownBounds) _ _ (sym q)))
 
   pub own-is : N (intervalsIn (undividedAxis m)) ≡ ownSamples m
   unfolding samplesOf

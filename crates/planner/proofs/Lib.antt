@@ -18,10 +18,10 @@ pub mod PaddedLaws
 pub mod CarriedLaws
 pub mod BoundLaws
 pub mod ProductBound
+pub mod FiguresChecks
 pub mod Acceptance
 pub mod Mirror
 pub mod PlannedFacts
-pub mod FiguresChecks
 pub mod UndividedAnswers
 pub mod StarredMoves
 pub mod AnswerLaws

@@ -38,7 +38,7 @@ module _ (m : Move) where
 
   -- what a rule from b on gives
   abbrev pub later : ((W V₀ A₀ J₁ a b : ℕ) → ℕ) → ℕ
-  later rule = ofMove m (λ W V₀ A₀ J₀ S₀. fromB W V₀ A₀ J₀ S₀ rule)
+  later rule = ofMove m (fromB rule)
 
   rule-A₁ : InRange m → 1 ≤ later A₁
   unfolding intervalsOf

@@ -1,5 +1,6 @@
 -- Laws of the checks: what they come to, one after the other.
-use mathlib.Core.Path.{_≡_, refl, sym, ap, _∙_}
+use mathlib.Core.Logic.{_↔_}
+use mathlib.Core.Path.{_≡_, refl, sym, ap, subst, _∙_}
 use mathlib.Core.Bool.{Bool, true, false, _||_, true≢false}
 use mathlib.Core.List.{List, [], _∷_, _++_}
 use Prim.Native.Nat.{ℕ, _≤_, _<_}
@@ -10,8 +11,8 @@ use lib.Dec.{eqb, ltb}
 use Rattle.planner.specs.Result.{Each, Result, refused, given, Check, check, firstRefusal}
 use Rattle.planner.specs.Intervals.{Intervals, N, intervalsBy}
 use Rattle.planner.specs.Outcome.{outOfRange, boundChecks, mostBound, mostSamples}
-use Rattle.planner.specs.Claims.{BoundInRange, BoundsInRange}
-use Rattle.planner.specs.Inner.Capped.{IntervalsAgree}
+use Rattle.planner.specs.Claims.{BoundInRange, BoundsInRange, IsPlanned}
+use Rattle.planner.specs.Inner.Capped.{FiguresToJerk, Figures, IntervalsAgree}
 use Rattle.planner.specs.Inner.Undivided.{undivided, undividedWithin}
 use Rattle.planner.proofs.Clash.{clash}
 use Rattle.planner.proofs.ResultLaws.{same-given}
@@ -81,6 +82,14 @@ module _ {R A B : Type 0} (xs ys : List (Check R)) (x : A) (o : Result R B) wher
   pub passed-on : (y : A) → given y ≡ firstRefusal xs (given x) → firstRefusal ys o ≡ firstRefusal (xs ++ ys) o
   passed-on y h = sym (checks-joined xs ys o ∙ all-pass xs (firstRefusal ys o) (passed xs x y (sym h)))
 
+-- So something is given exactly where every check passes.
+pub given-passes : {A : Type 0} (xs : List (Check ℕ)) (x : A) {o : Result ℕ A} → o ≡ firstRefusal xs (given x) → IsPlanned o ↔ Each Passes xs
+given-passes {A} xs x q = (λ p. go _ q p, λ p. subst IsPlanned (sym (q ∙ all-pass xs (given x) p)) tt)
+  where
+    go : (o : Result ℕ A) → o ≡ firstRefusal xs (given x) → IsPlanned o → Each Passes xs
+    go (refused n) q h = absurd h
+    go (given y) q h = passed xs x y (sym q)
+
 -- neither 0 nor above the most
 or-false : (x y : Bool) → (x || y) ≡ false → (x ≡ false) × (y ≡ false)
 or-false true y h = absurd (true≢false h)
@@ -117,16 +126,27 @@ bounds-pass h = (
 )
 
 -- what `undivided_in_range` answers
-module _ (W V₀ A₀ J₀ S₀ : ℕ) (t : Intervals) (g : IntervalsAgree 4097 W V₀ A₀ J₀ S₀ t) where
+pub snap-refused : (W V₀ A₀ J₀ S₀ : ℕ) → outOfRange S₀ ≡ true → refused 6 ≡ undividedWithin W V₀ A₀ J₀ S₀
+unfolding undividedWithin
+snap-refused W V₀ A₀ J₀ S₀ h = stop h .is
+
+pub with-snap : {W V₀ A₀ J₀ S₀ : ℕ} → FiguresToJerk W V₀ A₀ J₀ → outOfRange S₀ ≡ false → Figures W V₀ A₀ J₀ S₀
+with-snap h slow =
+    record {
+      distance = h .distance;
+      bounds = record { velocity = h .velocity; acceleration = h .acceleration; jerk = h .jerk; snap = bound-in-range _ slow };
+    }
+
+module _ (W V₀ A₀ J₀ S₀ : ℕ) (slow : outOfRange S₀ ≡ false) (t : Intervals) (g : IntervalsAgree 4097 W V₀ A₀ J₀ S₀ t) where
   abbrev rule : Intervals
   rule = intervalsBy W V₀ A₀ J₀ S₀
 
   pub too-many-samples : mostSamples < N t → refused 7 ≡ undividedWithin W V₀ A₀ J₀ S₀
   unfolding undividedWithin
-  too-many-samples h = stop (lt-ltb mostSamples (N rule) (omega (arith, g .samples))) .is
+  too-many-samples h = skip slow (stop (lt-ltb mostSamples (N rule) (omega (arith, g .samples)))) .is
 
   pub found-within : N t ≤ mostSamples → given (undivided W t) ≡ undividedWithin W V₀ A₀ J₀ S₀
   unfolding undividedWithin
   found-within h =
       ap (λ (t : Intervals). given (undivided W t)) (g .same (omega arith))
-      ∙ skip (le-ltb mostSamples (N rule) (omega (arith, g .samples))) none-left .is
+      ∙ skip slow (skip (le-ltb mostSamples (N rule) (omega (arith, g .samples))) none-left) .is

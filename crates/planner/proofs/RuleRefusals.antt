@@ -31,16 +31,16 @@ pub refused-most : (m : Move) (n : ℕ) → outcomeOf m ≡ refused n → Betwee
 unfolding outcomeOf
 refused-most m = refusal-has (Between 1 7) (checks m) (planOf (distanceOf m) (intervalsOf m)) (omega arith)
 
--- from 1 up, and not 6
-abbrev pub NotSix : ℕ → Type 0
-NotSix n = (1 ≤ n) × (1 ≤ n - 6 + (6 - n))
+-- a number from 1 up other than 6
+abbrev pub OtherThanSix : ℕ → Type 0
+OtherThanSix n = (1 ≤ n) × (1 ≤ n - 6 + (6 - n))
 
-pub third-never : (m : Move) → Each (Has NotSix) (thirdChecks m)
-third-never m = omega arith
+pub third-checks-other : (m : Move) → Each (Has OtherThanSix) (thirdChecks m)
+third-checks-other m = omega arith
 
-pub third-not-six : (m : Move) (n : ℕ) → thirdOutcomeOf m ≡ refused n → NotSix n
+pub third-not-six : (m : Move) (n : ℕ) → thirdOutcomeOf m ≡ refused n → OtherThanSix n
 unfolding thirdOutcomeOf
-third-not-six m = refusal-has NotSix (thirdChecks m) (thirdPlanOf (distanceOf m) (thirdIntervalsOf m)) (third-never m)
+third-not-six m = refusal-has OtherThanSix (thirdChecks m) (thirdPlanOf (distanceOf m) (thirdIntervalsOf m)) (third-checks-other m)
 
 pub never-six : NeverSixClaim
 never-six m h = omega (arith, third-not-six m 6 (sym (h .outcome-is)) .1)

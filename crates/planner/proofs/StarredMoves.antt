@@ -2,6 +2,7 @@
 use mathlib.Core.List.{List, [], _∷_, map}
 use mathlib.Core.Path.{_≡_, refl}
 use Prim.Native.Nat.{ℕ, _*_}
+use native.Mathlib.Omega.{arith}
 use lib.IntN.{pos}
 use Rattle.planner.specs.Quantities.{distance, unitsPerCount as G}
 use Rattle.planner.specs.Least.{firstFrom, least}
@@ -9,11 +10,13 @@ use Rattle.planner.specs.Intervals.{interval-a, interval-b, interval-c, 
 use Rattle.planner.specs.Outcome.{intervalsOf, samplesOf, outcomeOf}
 use Rattle.planner.specs.Result.{Each, Result, refused, given, firstRefusal}
 use Rattle.planner.specs.Claims.{Accepted, IsPlanned}
+use Rattle.planner.specs.Third.{third-b, thirdIntervalsOf, thirdSamplesOf}
+use Rattle.planner.specs.ThirdClaims.{ThirdAccepted}
 use Rattle.planner.specs.Starred.{Columns, refusal, columns, shown, starred, StarredClaim}
 use Rattle.planner.specs.declared.Move.{Move}
 use Rattle.planner.specs.declared.Plan.{Plan}
 use Rattle.planner.proofs.Clash.{clash}
-use Rattle.planner.proofs.Acceptance.{rule-accepted}
+use Rattle.planner.proofs.Acceptance.{rule-accepted, accepted-figures}
 
 pub starred-moves : StarredClaim
 unfolding starred outcomeOf firstRefusal samplesOf intervalsOf distance a J₁ b A₁ c V₁ e interval-a interval-b interval-c interval-e least firstFrom
@@ -55,6 +58,11 @@ firstStarred = record { displacement = pos 8; velocity = 2 * G; acceleration = G
 pub first-accepted : Accepted firstStarred
 unfolding starred
 first-accepted = starred-accepted .0 tt
+
+-- in the third order too: its intervals are 1, 2 and 4
+pub first-third-accepted : ThirdAccepted firstStarred
+unfolding thirdSamplesOf thirdIntervalsOf third-b c e A₁ V₁ interval-c interval-e least firstFrom distance
+first-third-accepted = record { in-range = accepted-figures firstStarred first-accepted; short-enough = omega arith }
 
 abbrev pub secondStarred : Move
 secondStarred = record { displacement = pos 8; velocity = G; acceleration = G; jerk = G; snap = G }

@@ -1,17 +1,18 @@
 -- Laws of the intervals of a third-order plan: b by the base's rule, their order, their product, the bounds that the jerk keeps; and what
 -- `third_in_range` answers.
 use mathlib.Core.Path.{_≡_, sym, ap, ap₂, _∙_}
-use Prim.Native.Nat.{ℕ, _+_, _*_, _^_, _≤_, _<_, min, max}
-use native.Mathlib.Nat.{le-trans, le-of-eq, mul-assoc, mul-pos, mul-le-mul, mul-le-mul-left, mul-le-mul-right, mul-left-comm, mul-comm, min-le-left, div-mul-le-self}
+use Prim.Native.Nat.{ℕ, _+_, _*_, _^_, _≤_, _<_, min}
+use native.Mathlib.Nat.{le-trans, le-of-eq, mul-assoc, mul-pos, mul-le-mul, mul-le-mul-right, min-le-left, div-mul-le-self}
 use native.Mathlib.Omega.{arith}
 use borrow.Author.Tests.{lt-ltb, le-ltb}
 use Rattle.planner.specs.Least.{least}
-use Rattle.planner.specs.Intervals.{interval-b, A₁, c, V₁, e, Intervals, N}
+use Rattle.planner.specs.Intervals.{interval-b, A₁, c, V₁, e, Intervals}
 use Rattle.planner.specs.Result.{refused, given}
 use Rattle.planner.specs.Outcome.{mostSamples}
 use Rattle.planner.specs.Third.{ThirdIntervals, third-b, thirdIntervalsBy, N₃, P₃, jerkSize, thirdPlanOf}
 use Rattle.planner.specs.Inner.Capped.{laterBy, LaterAgree}
-use Rattle.planner.specs.Inner.ThirdWithin.{ThirdFigures, thirdWithin}
+use Rattle.planner.specs.Inner.Capped.{FiguresToJerk}
+use Rattle.planner.specs.Inner.ThirdWithin.{thirdWithin}
 use Rattle.planner.specs.Inner.ThirdFacts.{ThirdOrdered, ThirdKeepsBounds}
 use Rattle.planner.specs.declared.Move.{Move}
 use Rattle.planner.proofs.Forms.{power-form, product-form, square-form}
@@ -42,7 +43,7 @@ module _ (W V₀ A₀ J₀ : ℕ) where
       }
 
   -- each search covers the bound that was carried on
-  module _ (h : ThirdFigures W V₀ A₀ J₀) where
+  module _ (h : FiguresToJerk W V₀ A₀ J₀) where
     one-V : 1 ≤ V₁ W V₀ A₀ J₀ 0 (t .b)
     one-V = one-V₁ _ _ _ _ _ _ (h .velocity .at-least) (h .acceleration .at-least) (h .jerk .at-least) (third-ordered .one-b)
 

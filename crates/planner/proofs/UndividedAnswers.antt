@@ -1,17 +1,38 @@
 -- What follows where a plan was found but for its D, and where it was refused.
+use mathlib.Core.List.{List, [], _∷_}
 use mathlib.Core.Path.{_≡_, sym, ap, subst, _∙_}
 use Prim.Native.Nat.{ℕ}
-use Rattle.planner.specs.Result.{refused, given}
-use Rattle.planner.specs.Outcome.{checks, distanceOf, intervalsOf, intervalsIn, samplesOf, planOf, outcomeOf}
+use lib.Dec.{ltb}
+use Rattle.planner.specs.Result.{Result, refused, given, Check, check}
+use Rattle.planner.specs.Outcome.{mostSamples, outOfRange, checks, distanceOf, intervalsOf, intervalsIn, samplesOf, planOf, outcomeOf}
 use Rattle.planner.specs.Claims.{Accepted}
-use Rattle.planner.specs.Inner.Undivided.{undivided, undividedResult, Divisible}
+use Rattle.planner.specs.Inner.Undivided.{undivided, undividedResult, undividedWithin, Divisible}
 use Rattle.planner.specs.declared.Move.{Move}
 use Rattle.planner.specs.declared.Plan.{Plan}
 use Rattle.planner.proofs.RefusalLaws.{passed, passed-same, same-refusal}
+use Rattle.planner.proofs.FiguresChecks.{figuresOf, figures-refused, figures-passed, measured}
 use Rattle.planner.proofs.Acceptance.{passed-accepted, accepted-outcome}
 use Rattle.planner.proofs.PlannedFacts.{rule-ordered}
 
 module _ (m : Move) where
+  -- what `undivided_plan` answers: after the figures that both orders read, refusals 6 and 7 are left
+  abbrev last : List (Check ℕ)
+  last = check 6 (outOfRange (m .snap)) ∷ check 7 (ltb mostSamples (samplesOf m)) ∷ []
+
+  pub undivided-refused : (n : ℕ) → refused n ≡ figuresOf m → refused n ≡ undividedResult m
+  unfolding undividedResult
+  undivided-refused n h = figures-refused m last _ n h
+
+  pub undivided-given :
+      {W : ℕ} {o : Result ℕ Plan}
+      → given W ≡ figuresOf m
+      → o ≡ undividedWithin W (m .velocity) (m .acceleration) (m .jerk) (m .snap)
+      → o ≡ undividedResult m
+  unfolding undividedWithin undividedResult intervalsOf samplesOf
+  undivided-given h q =
+      q ∙ ap (λ (W : ℕ). undividedWithin W (m .velocity) (m .acceleration) (m .jerk) (m .snap)) (measured m h)
+      ∙ figures-passed m last _ h
+
   module _ {x : Plan} (h : given x ≡ undividedResult m) where
     found-is : x ≡ undivided (distanceOf m) (intervalsOf m)
     unfolding undividedResult

@@ -75,5 +75,5 @@ module _ (m : Move) where
     pub durations : N (intervalsOf m) ≡ 8 * p (intervalsOf m) + 4 * q (intervalsOf m) + 2 * r (intervalsOf m) + s (intervalsOf m)
     pub product : N (intervalsOf m) ≤ mostSamples → P (intervalsOf m) ≤ 2 ^ 39
     pub one-J₁ : InRange m → 1 ≤ ofMove J₁
-    pub one-A₁ : InRange m → 1 ≤ ofMove (λ W V₀ A₀ J₀ S₀. fromB W V₀ A₀ J₀ S₀ A₁)
-    pub one-V₁ : InRange m → 1 ≤ ofMove (λ W V₀ A₀ J₀ S₀. fromB W V₀ A₀ J₀ S₀ V₁)
+    pub one-A₁ : InRange m → 1 ≤ ofMove (fromB A₁)
+    pub one-V₁ : InRange m → 1 ≤ ofMove (fromB V₁)

@@ -61,12 +61,13 @@ module _ (W V₀ A₀ J₀ S₀ : ℕ) where
   unfoldable pub b : ℕ
   b = interval-b W V₀ A₀ J₁ a
 
-  -- What a rule from b on gives.
-  abbrev pub fromB : ((W V₀ A₀ J₁ a b : ℕ) → ℕ) → ℕ
-  fromB rule = rule W V₀ A₀ J₁ a b
+-- What a rule from b on gives for these numbers.
+abbrev pub fromB : ((W V₀ A₀ J₁ a b : ℕ) → ℕ) → (W V₀ A₀ J₀ S₀ : ℕ) → ℕ
+fromB rule W V₀ A₀ J₀ S₀ = rule W V₀ A₀ (J₁ W V₀ A₀ J₀ S₀) (a W V₀ A₀ J₀ S₀) (b W V₀ A₀ J₀ S₀)
 
-  abbrev pub intervalsBy : Intervals
-  intervalsBy = record { a = a; b = b; c = fromB c; e = fromB e }
+abbrev pub intervalsBy : (W V₀ A₀ J₀ S₀ : ℕ) → Intervals
+intervalsBy W V₀ A₀ J₀ S₀ =
+    record { a = a W V₀ A₀ J₀ S₀; b = b W V₀ A₀ J₀ S₀; c = fromB c W V₀ A₀ J₀ S₀; e = fromB e W V₀ A₀ J₀ S₀ }
 
 -- What follows from them, and the distance W.
 module _ (t : Intervals) where

@@ -33,11 +33,11 @@ outOfRange x = eqb x 0 || ltb mostBound x
 abbrev pub displacementChecks : (X : ℤ) → List (Check ℕ)
 displacementChecks X = check 1 (eqb (natAbs X) 0) ∷ check 2 (ltb mostCounts (natAbs X)) ∷ []
 
-abbrev pub jerkChecks : (V₀ A₀ J₀ : ℕ) → List (Check ℕ)
-jerkChecks V₀ A₀ J₀ = check 3 (outOfRange V₀) ∷ check 4 (outOfRange A₀) ∷ check 5 (outOfRange J₀) ∷ []
+abbrev pub boundChecksToJerk : (V₀ A₀ J₀ : ℕ) → List (Check ℕ)
+boundChecksToJerk V₀ A₀ J₀ = check 3 (outOfRange V₀) ∷ check 4 (outOfRange A₀) ∷ check 5 (outOfRange J₀) ∷ []
 
 abbrev pub boundChecks : (V₀ A₀ J₀ S₀ : ℕ) → List (Check ℕ)
-boundChecks V₀ A₀ J₀ S₀ = jerkChecks V₀ A₀ J₀ ++ (check 6 (outOfRange S₀) ∷ [])
+boundChecks V₀ A₀ J₀ S₀ = boundChecksToJerk V₀ A₀ J₀ ++ (check 6 (outOfRange S₀) ∷ [])
 
 -- The plan of four intervals for the distance W; and the intervals of a plan.
 abbrev pub planOf : (W : ℕ) (t : Intervals) → Plan

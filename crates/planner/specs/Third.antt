@@ -7,7 +7,7 @@ use lib.Dec.{ltb}
 use Rattle.planner.specs.Least.{least}
 use Rattle.planner.specs.Intervals.{c, e}
 use Rattle.planner.specs.Result.{Result, refused, given, Check, check, firstRefusal}
-use Rattle.planner.specs.Outcome.{mostSamples, displacementChecks, jerkChecks, distanceOf, number}
+use Rattle.planner.specs.Outcome.{mostSamples, displacementChecks, boundChecksToJerk, distanceOf, number}
 use Rattle.planner.specs.declared.Move.{Move}
 use Rattle.planner.specs.declared.ThirdPlan.{ThirdPlan}
 use Rattle.planner.specs.declared.ThirdAnswer.{ThirdAnswer}
@@ -61,7 +61,7 @@ module _ (m : Move) where
   abbrev pub thirdChecks : List (Check ℕ)
   thirdChecks =
       displacementChecks (m .displacement)
-      ++ (jerkChecks (m .velocity) (m .acceleration) (m .jerk) ++ (check 7 (ltb mostSamples thirdSamplesOf) ∷ []))
+      ++ (boundChecksToJerk (m .velocity) (m .acceleration) (m .jerk) ++ (check 7 (ltb mostSamples thirdSamplesOf) ∷ []))
 
   unfoldable pub thirdOutcomeOf : Result ℕ ThirdPlan
   thirdOutcomeOf = firstRefusal thirdChecks (given (thirdPlanOf (distanceOf m) thirdIntervalsOf))

@@ -1,5 +1,5 @@
--- Document 02, request 3: what the theorems `third-acceptance` (demand 2), `one-third-answer`, `third-order`, `never-six`, `snap-unread` and
--- `third-interval-claim` say of the rules of third-order plans.
+-- Document 02, request 3: what the theorems `third-acceptance` (demand 2), `third-mirror`, `one-third-answer`, `third-plan-order`,
+-- `never-six`, `snap-unread` and `third-interval-claim` say of the rules of third-order plans.
 use mathlib.Core.List.{[], _∷_}
 use mathlib.Core.Logic.{_↔_}
 use mathlib.Core.Path.{_≡_}
@@ -9,8 +9,8 @@ use Rattle.planner.specs.Intervals.{interval-b}
 use Rattle.planner.specs.Order.{InOrder}
 use Rattle.planner.specs.Result.{Result, refused}
 use Rattle.planner.specs.Outcome.{mostCounts, mostSamples, distanceOf}
-use Rattle.planner.specs.Claims.{BoundInRange, IsPlanned}
-use Rattle.planner.specs.Third.{third-b, N₃, P₃, thirdIntervalsOf, thirdSamplesOf, thirdChecks, PlansThird, thirdOutcome}
+use Rattle.planner.specs.Claims.{BoundInRange, IsPlanned, mirrored}
+use Rattle.planner.specs.Third.{N₃, P₃, thirdIntervalsOf, thirdSamplesOf, thirdChecks, PlansThird, thirdOutcome}
 use Rattle.planner.specs.declared.Move.{Move}
 use Rattle.planner.specs.declared.ThirdPlan.{ThirdPlan}
 use Rattle.planner.specs.declared.ThirdAnswer.{ThirdAnswer}
@@ -30,13 +30,17 @@ pub record ThirdAccepted (m : Move) : Type 0 where
 abbrev pub ThirdAcceptanceClaim : Type 0
 ThirdAcceptanceClaim = (m : Move) (o : Result ℕ ThirdPlan) → PlansThird m o → IsPlanned o ↔ ThirdAccepted m
 
+-- As for the fourth order, it depends on the size of X alone.
+abbrev pub ThirdMirrorClaim : Type 0
+ThirdMirrorClaim = (m : Move) → ThirdAccepted m ↔ ThirdAccepted (mirrored m)
+
 -- The promise leaves one answer.
 abbrev pub OneThirdAnswerClaim : Type 0
 OneThirdAnswerClaim = (m : Move) (x y : ThirdAnswer) → PlansThird m (thirdOutcome x) → PlansThird m (thirdOutcome y) → x ≡ y
 
 -- The checks in their order.
-abbrev pub ThirdOrderClaim : Type 0
-ThirdOrderClaim = (m : Move) → InOrder (thirdChecks m) (1 ∷ 2 ∷ 3 ∷ 4 ∷ 5 ∷ 7 ∷ [])
+abbrev pub ThirdPlanOrderClaim : Type 0
+ThirdPlanOrderClaim = (m : Move) → InOrder (thirdChecks m) (1 ∷ 2 ∷ 3 ∷ 4 ∷ 5 ∷ 7 ∷ [])
 
 -- "refusal 6 is never given there"
 abbrev pub NeverSixClaim : Type 0

@@ -1,11 +1,11 @@
-// Refusals 1 to 6: the figures of a move, by themselves.
+// Refusals 1 to 5: the figures that both orders read.
 use crate::Refusal;
 use crate::UNITS_PER_COUNT;
 use crate::bounds::BoundsAnswer;
-use crate::bounds::check_bounds;
+use crate::bounds::check_bounds_to_jerk;
 use crate::size::magnitude;
 ghost use mathlib.Core.Path.{_≡_};
-ghost use Rattle.planner.specs.Inner.Undivided.{moveOf, figuresOutcome, figuresResult};
+ghost use Rattle.planner.specs.Inner.Undivided.{figuresOutcome, figuresResult};
 
 // The farthest displacement, either way.
 const MOST_COUNTS: u64 = 1_048_576;
@@ -17,8 +17,8 @@ pub(crate) enum FiguresAnswer {
 }
 
 // The move's numbers come one by one: as a struct they would be copied at each call.
-pub(crate) fn check_figures(x: i64, v: u64, acc: u64, j: u64, s: u64) -> FiguresAnswer
-    ensures { λ r. ⌜ figuresOutcome r ≡ figuresResult (moveOf x v acc j s) ⌝ }
+pub(crate) fn check_figures(x: i64, v: u64, acc: u64, j: u64) -> FiguresAnswer
+    ensures { λ r. ⌜ figuresOutcome r ≡ figuresResult x v acc j ⌝ }
 {
     let size = magnitude(x);
     if size == 0 {
@@ -27,7 +27,7 @@ pub(crate) fn check_figures(x: i64, v: u64, acc: u64, j: u64, s: u64) -> Figures
     if MOST_COUNTS < size {
         return FiguresAnswer::Refused(Refusal::DisplacementRange);
     }
-    let bounds = check_bounds(v, acc, j, s);
+    let bounds = check_bounds_to_jerk(v, acc, j);
     match bounds {
         BoundsAnswer::Refused(refusal) => FiguresAnswer::Refused(refusal),
         BoundsAnswer::InRange => FiguresAnswer::InRange(UNITS_PER_COUNT * size),

@@ -2,23 +2,27 @@
 use crate::Plan;
 use crate::PlanAnswer;
 use crate::Refusal;
+use crate::bounds::out_of_range;
 use crate::division::samples_in;
 use crate::figures::FiguresAnswer;
 use crate::figures::check_figures;
 use crate::intervals::find_intervals;
 ghost use mathlib.Core.Path.{_≡_};
 ghost use Rattle.planner.specs.Outcome.{outcome};
-ghost use Rattle.planner.specs.Inner.Capped.{Figures};
+ghost use Rattle.planner.specs.Inner.Capped.{FiguresToJerk};
 ghost use Rattle.planner.specs.Inner.Undivided.{moveOf, undividedResult, undividedWithin};
 
 // The most samples that a move may take.
 pub(crate) const MOST_SAMPLES: u64 = 4096;
 
-// The intervals of a move whose figures are in range, with all of W still short; or refusal 7.
+// The intervals of a move whose other figures are in range, with all of W still short; or refusal 6 or 7.
 fn undivided_in_range(w: u64, v: u64, acc: u64, j: u64, s: u64) -> PlanAnswer
-    requires { ⌜ Figures w v acc j s ⌝ }
+    requires { ⌜ FiguresToJerk w v acc j ⌝ }
     ensures { λ r. ⌜ outcome r ≡ undividedWithin w v acc j s ⌝ }
 {
+    if out_of_range(s) {
+        return PlanAnswer::Refused(Refusal::SnapRange);
+    }
     let t = find_intervals(w, v, acc, j, s);
     let x = Plan {
         a: t.a,
@@ -38,7 +42,7 @@ fn undivided_in_range(w: u64, v: u64, acc: u64, j: u64, s: u64) -> PlanAnswer
 pub(crate) fn undivided_plan(x: i64, v: u64, acc: u64, j: u64, s: u64) -> PlanAnswer
     ensures { λ r. ⌜ outcome r ≡ undividedResult (moveOf x v acc j s) ⌝ }
 {
-    let figures = check_figures(x, v, acc, j, s);
+    let figures = check_figures(x, v, acc, j);
     match figures {
         FiguresAnswer::Refused(refusal) => PlanAnswer::Refused(refusal),
         FiguresAnswer::InRange(distance) => undivided_in_range(distance, v, acc, j, s),

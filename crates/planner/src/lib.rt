@@ -17,7 +17,6 @@ use crate::division::divided;
 use crate::figures::FiguresAnswer;
 use crate::figures::check_figures;
 use crate::in_range::undivided_plan;
-use crate::third::UNREAD;
 use crate::third::third_in_range;
 pub use size::magnitude;
 ghost use mathlib.Core.Path.{_≡_};
@@ -77,7 +76,6 @@ pub enum Refusal {
 }
 
 // A third-order plan: the intervals b, c and e in samples, the size of the jerk, and the shortfall.
-#[repr(C)]
 pub struct ThirdPlan {
     pub b: u64,
     pub c: u64,
@@ -123,7 +121,7 @@ pub fn plan_move(m: Move) -> PlanAnswer
 pub fn plan_third(m: Move) -> ThirdAnswer
     ensures { λ r. ⌜ PlansThird m (thirdOutcome r) ⌝ }
 {
-    let figures = check_figures(m.displacement, m.velocity, m.acceleration, m.jerk, UNREAD);
+    let figures = check_figures(m.displacement, m.velocity, m.acceleration, m.jerk);
     match figures {
         FiguresAnswer::Refused(refusal) => ThirdAnswer::Refused(refusal),
         FiguresAnswer::InRange(distance) => third_in_range(

@@ -7,14 +7,12 @@ use crate::in_range::MOST_SAMPLES;
 use crate::intervals::later_intervals;
 ghost use mathlib.Core.Path.{_≡_};
 ghost use Rattle.planner.specs.Third.{thirdOutcome};
-ghost use Rattle.planner.specs.Inner.ThirdWithin.{ThirdFigures, thirdWithin};
-
-// What is asked in place of a bound on the snap: it is in range.
-pub(crate) const UNREAD: u64 = 1;
+ghost use Rattle.planner.specs.Inner.Capped.{FiguresToJerk};
+ghost use Rattle.planner.specs.Inner.ThirdWithin.{thirdWithin};
 
 // The base's later intervals with a = 0 and J1 = J; or refusal 7.
 pub(crate) fn third_in_range(w: u64, v: u64, acc: u64, j: u64) -> ThirdAnswer
-    requires { ⌜ ThirdFigures w v acc j ⌝ }
+    requires { ⌜ FiguresToJerk w v acc j ⌝ }
     ensures { λ r. ⌜ thirdOutcome r ≡ thirdWithin w v acc j ⌝ }
 {
     let t = later_intervals(w, v, acc, j, 0);

@@ -4,7 +4,6 @@ use mathlib.Core.Path.{_≡_, ap, _∙_}
 use Prim.Native.Nat.{ℕ, _*_, _≤_}
 use native.Mathlib.Nat.{mul-one}
 use lib.IntN.{pos, natAbs}
-use Rattle.profile.specs.Profile.{sum}
 use Rattle.profile.specs.Inner.Repeated.{sums}
 use Rattle.profile.specs.Inner.Widths.{span, Spread, switched}
 use Rattle.profile.specs.Inner.Facts.{jerkUnit, jerkOver, At, AtEnd}

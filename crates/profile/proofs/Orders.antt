@@ -4,7 +4,6 @@ use mathlib.Core.Path.{_≡_, ap}
 use mathlib.Core.List.{List, [], _∷_}
 use Prim.Native.Nat.{ℕ, _+_, _-_, _≤_}
 use native.Mathlib.Nat.{sub-add-eq}
-use lib.IntN.{ℤ}
 use Rattle.profile.specs.Profile.{Segment, segments, sevenSegments, switchedIn, sum}
 use Rattle.profile.specs.Profile as profile
 use Rattle.profile.specs.Inner.Repeated.{sums}
@@ -15,7 +14,7 @@ pub fifteen : (a b c e : ℕ) → segments a (b - a) (c - a - b) (e - a - b - c)
 unfolding segments switched span withOppositeSigns opposite
 fifteen a b c e = rw (sub-add-eq c a b, sub-add-eq e (a + b) c, sub-add-eq e a b)
 
-pub seven : (b c e : ℕ) → sevenSegments b (c - b) (e - b - c) ≡ switched b (e ∷ c ∷ [])
+pub seven : (b c e : ℕ) → sevenSegments b c e ≡ switched b (e ∷ c ∷ [])
 unfolding sevenSegments switched span withOppositeSigns opposite
 seven b c e = rw (sub-add-eq e b c)
 
@@ -32,6 +31,6 @@ pub fourth-jerk : (a b c e D : ℕ) → profile.jerk a (b - a) (c - a - b) (e - 
 unfolding profile.jerk profile.snap jerkOver sums
 fourth-jerk a b c e D = ap (λ (xs : List Segment). sum (switchedIn xs D)) (fifteen a b c e)
 
-pub third-jerk : (b c e D : ℕ) → switchedIn (sevenSegments b (c - b) (e - b - c)) D ≡ jerkOver b [] c e D
+pub third-jerk : (b c e D : ℕ) → switchedIn (sevenSegments b c e) D ≡ jerkOver b [] c e D
 unfolding jerkOver sums
 third-jerk b c e D = ap (λ (xs : List Segment). switchedIn xs D) (seven b c e)

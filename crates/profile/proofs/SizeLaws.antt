@@ -28,9 +28,9 @@ module _ (a D : ℕ) (one : 1 ≤ a) where
   unit-most [] s = mul-le-mul-left D one
   unit-most (w ∷ inner) s = mul-le-mul-left D (product-grows a (w ∷ []) inner one s)
 
-  module _ (inner : List ℕ) (c e top : ℕ) (s : Spread a (e ∷ c ∷ inner)) (k : ℕ) where
+  module _ (inner : List ℕ) (c e top : ℕ) (s : Spread a (e ∷ c ∷ inner)) where
     -- up to the velocity, where top bounds it
-    module _ (speed : D * product a (c ∷ inner) ≤ top) where
+    module _ (speed : D * product a (c ∷ inner) ≤ top) (k : ℕ) where
       pub velocity-most : natAbs (sum (sum (jerkOver a inner c e D)) k) ≤ top
       velocity-most = le-trans (any-order a inner c e s D k .velocity-size) speed
 
@@ -48,7 +48,7 @@ module _ (a D : ℕ) (one : 1 ≤ a) where
       pub reach-speed : D * product a (c ∷ inner) ≤ top
       reach-speed = le-trans (mul-le-mul-left D (product-grows a (e ∷ []) (c ∷ inner) one s)) reach
 
-      pub position-most : natAbs (sum (sum (sum (jerkOver a inner c e D))) k) ≤ top
-      position-most =
+      pub position-most : (k : ℕ) → natAbs (sum (sum (sum (jerkOver a inner c e D))) k) ≤ top
+      position-most k =
           let p = any-order a inner c e s D k in
           rw (p .position-is) (le-trans (mul-le-mul-left D (p .position-top)) reach)

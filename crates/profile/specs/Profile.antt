@@ -37,16 +37,16 @@ segments p q r s =
     ∷ segment p negative
     ∷ []
 
--- "seven stretches of b, c−b, b, e−b−c, b, c−b, b samples with signs + 0 − 0 − 0 +": p for b, q for c−b and r for e−b−c.
-unfoldable pub sevenSegments : (p q r : ℕ) → List Segment
-sevenSegments p q r =
-    segment p positive
-    ∷ segment q none
-    ∷ segment p negative
-    ∷ segment r none
-    ∷ segment p negative
-    ∷ segment q none
-    ∷ segment p positive
+-- "seven stretches of b, c−b, b, e−b−c, b, c−b, b samples with signs + 0 − 0 − 0 +".
+unfoldable pub sevenSegments : (b c e : ℕ) → List Segment
+sevenSegments b c e =
+    segment b positive
+    ∷ segment (c - b) none
+    ∷ segment b negative
+    ∷ segment (e - b - c) none
+    ∷ segment b negative
+    ∷ segment (c - b) none
+    ∷ segment b positive
     ∷ []
 
 -- u in segments with +, v in those with −.

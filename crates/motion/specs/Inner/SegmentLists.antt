@@ -11,7 +11,7 @@ use Rattle.profile.specs.Profile.{Sign, none, level, segment, segments, sevenSe
 use Rattle.profile.specs.Profile as profile
 use Rattle.motion.specs.declared.segments.Durations.{Durations}
 use Rattle.motion.specs.declared.segments.Segment.{Segment}
-use Rattle.motion.specs.declared.snap.Levels.{Levels}
+use Rattle.motion.specs.declared.switched.Levels.{Levels}
 
 -- With the levels u and v.
 unfoldable pub switchedList : List profile.Segment → (u v : ℤ) → List ℤ
@@ -40,7 +40,7 @@ abbrev pub fourthSegments : Intervals → List profile.Segment
 fourthSegments t = segments (durations.p t) (durations.q t) (durations.r t) (durations.s t)
 
 abbrev pub thirdSegments : ThirdIntervals → List profile.Segment
-thirdSegments t = sevenSegments (t .b) (t .c - t .b) (t .e - t .b - t .c)
+thirdSegments t = sevenSegments (t .b) (t .c) (t .e)
 
 abbrev pub segmentsOf : Durations → List profile.Segment
 segmentsOf d = withTrailing (segments (d .p) (d .q) (d .r) (d .s)) (d .trailing)

@@ -10,7 +10,7 @@ use crate::force::store::store_rows;
 use crate::planned::samples_in_plan;
 use crate::segments::durations_of;
 use crate::segments::segment_at;
-use crate::snap::levels_of;
+use crate::switched::levels_of;
 use planner::Plan;
 ghost use mathlib.Core.List.{[], _∷_};
 ghost use Prim.Native.Nat.{_+_, _≤_};

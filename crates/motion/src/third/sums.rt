@@ -1,13 +1,13 @@
 // One sample of a third-order plan, by sums from rest.
 use crate::Sample;
-use crate::snap::Levels;
-use crate::snap::jerk_at;
-use crate::snap::levels_of;
 use crate::state::State;
 use crate::state::at_rest;
-use crate::state::holding;
 use crate::state::step;
+use crate::state::with_jerk;
 use crate::sums::sample_of;
+use crate::switched::Levels;
+use crate::switched::jerk_at;
+use crate::switched::levels_of;
 use planner::ThirdPlan;
 ghost use mathlib.Core.Path.{_≡_};
 ghost use Prim.Native.Nat.{_≤_};
@@ -24,9 +24,9 @@ fn sum_third(plan: ThirdPlan, levels: Levels, k: u64) -> State
     let mut state = at_rest();
     while state.sample < k {
         let jerk = jerk_at(plan, levels, state.sample);
-        state = step(holding(state, jerk), 0);
+        state = step(with_jerk(state, jerk), 0);
     }
-    holding(state, jerk_at(plan, levels, k))
+    with_jerk(state, jerk_at(plan, levels, k))
 }
 
 // The three sums at sample k with the jerk there, and the position rounded.

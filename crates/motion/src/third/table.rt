@@ -4,9 +4,9 @@ use crate::TableAnswer;
 use crate::planned::samples_in_third;
 use crate::segments::segment_at;
 use crate::segments::third_durations;
-use crate::snap::levels_of;
 use crate::state::at_rest;
-use crate::third::store::store_held;
+use crate::switched::levels_of;
+use crate::third::store::store_with_jerk;
 use planner::ThirdPlan;
 ghost use mathlib.Core.List.{[]};
 ghost use Prim.Native.Nat.{_+_, _≤_};
@@ -25,7 +25,7 @@ fn fill_third(table: &mut [i64], displacement: i64, plan: ThirdPlan)
     let mut i = 0u64;
     while i < 8 {
         let segment = segment_at(durations, levels, i);
-        state = store_held(table, segment.samples, segment.level, state);
+        state = store_with_jerk(table, segment.samples, segment.level, state);
         i += 1;
     }
 }

@@ -5,7 +5,13 @@ use Rattle.planner.specs.Intervals.{Intervals, N, interval-b, c, e, inte
 use Rattle.planner.specs.Claims.{BoundInRange, BoundsInRange}
 use Rattle.planner.specs.declared.intervals.Intervals as code
 
--- The figures of a move in range, by its distance.
+-- The figures of a move in range, by its distance: those that both orders read, and all of them.
+pub record FiguresToJerk (W V₀ A₀ J₀ : ℕ) : Type 0 where
+  pub distance : W ≤ 2 ^ 60
+  pub velocity : BoundInRange V₀
+  pub acceleration : BoundInRange A₀
+  pub jerk : BoundInRange J₀
+
 pub record Figures (W V₀ A₀ J₀ S₀ : ℕ) : Type 0 where
   pub distance : W ≤ 2 ^ 60
   pub bounds : BoundsInRange V₀ A₀ J₀ S₀

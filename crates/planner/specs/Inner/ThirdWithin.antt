@@ -1,19 +1,11 @@
--- What the private functions of a third-order plan need and answer.
+-- What the private function of a third-order plan answers.
 use mathlib.Core.List.{[], _∷_}
-use Prim.Native.Nat.{ℕ, _^_, _≤_}
+use Prim.Native.Nat.{ℕ}
 use lib.Dec.{ltb}
 use Rattle.planner.specs.Result.{Result, given, check, firstRefusal}
 use Rattle.planner.specs.Outcome.{mostSamples}
-use Rattle.planner.specs.Claims.{BoundInRange}
 use Rattle.planner.specs.Third.{thirdIntervalsBy, N₃, thirdPlanOf}
 use Rattle.planner.specs.declared.ThirdPlan.{ThirdPlan}
-
--- The figures that are read are in range.
-pub record ThirdFigures (W V₀ A₀ J₀ : ℕ) : Type 0 where
-  pub distance : W ≤ 2 ^ 60
-  pub velocity : BoundInRange V₀
-  pub acceleration : BoundInRange A₀
-  pub jerk : BoundInRange J₀
 
 -- What is left of the outcome where refusals 1 to 5 do not apply.
 unfoldable pub thirdWithin : (W V₀ A₀ J₀ : ℕ) → Result ℕ ThirdPlan

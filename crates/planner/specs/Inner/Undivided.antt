@@ -1,11 +1,12 @@
 -- A plan whose D is still to be found: all of W is short. And what the private functions answer of it.
-use mathlib.Core.List.{[], _∷_, _++_}
+use mathlib.Core.List.{List, [], _∷_, _++_}
 use Prim.Native.Nat.{ℕ, _≤_}
 use lib.Dec.{ltb}
 use lib.IntN.{ℤ}
+use Rattle.planner.specs.Quantities.{distance}
 use Rattle.planner.specs.Intervals.{Intervals, N, intervalsBy}
-use Rattle.planner.specs.Result.{Result, refused, given, check, firstRefusal}
-use Rattle.planner.specs.Outcome.{mostSamples, displacementChecks, boundChecks, checks, distanceOf, intervalsOf, intervalsIn, number}
+use Rattle.planner.specs.Result.{Result, refused, given, Check, check, firstRefusal}
+use Rattle.planner.specs.Outcome.{mostSamples, outOfRange, displacementChecks, boundChecksToJerk, checks, distanceOf, intervalsOf, intervalsIn, number}
 use Rattle.planner.specs.Inner.Facts.{Ordered}
 use Rattle.planner.specs.declared.Move.{Move}
 use Rattle.planner.specs.declared.Plan.{Plan}
@@ -29,25 +30,26 @@ pub record Divisible (x : Plan) : Type 0 where
 unfoldable pub undividedResult : Move → Result ℕ Plan
 undividedResult m = firstRefusal (checks m) (given (undivided (distanceOf m) (intervalsOf m)))
 
--- What is left of it where refusals 1 to 6 do not apply.
+-- What is left of it where refusals 1 to 5 do not apply.
 unfoldable pub undividedWithin : (W V₀ A₀ J₀ S₀ : ℕ) → Result ℕ Plan
 undividedWithin W V₀ A₀ J₀ S₀ =
     let t = intervalsBy W V₀ A₀ J₀ S₀ in
-    firstRefusal (check 7 (ltb mostSamples (N t)) ∷ []) (given (undivided W t))
+    firstRefusal (check 6 (outOfRange S₀) ∷ check 7 (ltb mostSamples (N t)) ∷ []) (given (undivided W t))
 
--- The distance of a move in range, or its refusal.
+-- The figures that both orders read, and the distance where they are in range: refusals 1 to 5.
+abbrev pub figureChecks : (X : ℤ) (V₀ A₀ J₀ : ℕ) → List (Check ℕ)
+figureChecks X V₀ A₀ J₀ = displacementChecks X ++ boundChecksToJerk V₀ A₀ J₀
+
 abbrev pub figuresOutcome : FiguresAnswer → Result ℕ ℕ
 figuresOutcome (Measured x) = given x
 figuresOutcome (Unmeasured x) = refused (number x)
 
-unfoldable pub figuresResult : Move → Result ℕ ℕ
-figuresResult m =
-    firstRefusal (displacementChecks (m .displacement) ++ boundChecks (m .velocity) (m .acceleration) (m .jerk) (m .snap))
-    (given (distanceOf m))
+unfoldable pub figuresResult : (X : ℤ) (V₀ A₀ J₀ : ℕ) → Result ℕ ℕ
+figuresResult X V₀ A₀ J₀ = firstRefusal (figureChecks X V₀ A₀ J₀) (given (distance X))
 
 abbrev pub boundsOutcome : BoundsAnswer → Result ℕ (Unit {0})
 boundsOutcome InRange = given tt
 boundsOutcome (Refused x) = refused (number x)
 
-unfoldable pub boundsResult : (V₀ A₀ J₀ S₀ : ℕ) → Result ℕ (Unit {0})
-boundsResult V₀ A₀ J₀ S₀ = firstRefusal (boundChecks V₀ A₀ J₀ S₀) (given tt)
+unfoldable pub boundsResult : List (Check ℕ) → Result ℕ (Unit {0})
+boundsResult xs = firstRefusal xs (given tt)

@@ -10,11 +10,11 @@ use lib.IntN.{ℤ}
 use Rattle.planner.specs.declared.Plan.{Plan}
 use Rattle.planner.specs.Outcome.{intervalsIn}
 use Rattle.profile.specs.Inner.Widths.{switchedBy}
-use Rattle.motion.specs.declared.snap.Levels.{Levels}
+use Rattle.motion.specs.declared.switched.Levels.{Levels}
 use Rattle.motion.specs.declared.state.State.{State}
 use Rattle.motion.specs.Sampling.{Values}
 use Rattle.motion.specs.Inner.Planned.{widthsOf, directedSnap, valuesIn, IsSampleOf}
-use Rattle.motion.specs.Inner.SnapLevels.{AreLevels}
+use Rattle.motion.specs.Inner.SwitchedLevels.{AreLevels}
 use Rattle.motion.specs.Inner.Steps.{StepsFitBy, stateAt}
 use Rattle.motion.proofs.StateLaws.{directed, state-is, step-fits, snap-small}
 use Rattle.motion.proofs.DirectedValue.{directed-snap}

@@ -12,7 +12,7 @@ use Rattle.planner.specs.Outcome.{intervalsIn}
 use Rattle.profile.specs.Inner.Widths.{switchedBy}
 use Rattle.motion.specs.Inner.Planned.{widthsOf}
 use Rattle.motion.specs.declared.state.State.{State}
-use Rattle.motion.specs.declared.snap.Levels.{Levels}
+use Rattle.motion.specs.declared.switched.Levels.{Levels}
 use Rattle.motion.proofs.StepLaws.{On, on-first, on-next, on-at}
 use Rattle.motion.proofs.sums.sum_to.Statement.{statement}
 use Rattle.motion.proofs.sums.sum_to.Tie as tie

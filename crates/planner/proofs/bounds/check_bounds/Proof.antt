@@ -1,73 +1,53 @@
--- `check_bounds` meets its contract: the tests on the way decide the checks of the rule, one after the other.
+-- `check_bounds` meets its contract: after the bounds that both orders read, refusal 6 is left.
 use borrow.Author.Needs.{needs}
-use mathlib.Core.Path.{_≡_, sym, _∙_}
-use Prim.Native.Nat.{ℕ}
-use lib.ListN.{drop}
-use Rattle.planner.specs.Result.{Result, given}
-use Rattle.planner.specs.Outcome.{boundChecks}
-use Rattle.planner.specs.Inner.Undivided.{boundsResult}
-use Rattle.planner.proofs.RefusalLaws.{Gives, stop, skip, none-left}
+use mathlib.Core.List.{[], _∷_}
+use mathlib.Core.Path.{_≡_, sym, ap, _∙_}
+use Rattle.planner.specs.Result.{given, check, firstRefusal}
+use Rattle.planner.specs.Outcome.{outOfRange, boundChecksToJerk, boundChecks}
+use Rattle.planner.specs.Inner.Undivided.{boundsOutcome, boundsResult}
+use Rattle.planner.proofs.RefusalLaws.{stop, skip, none-left, refused-on, passed-on}
 use Rattle.planner.proofs.bounds.check_bounds.Statement.{statement}
 use Rattle.planner.proofs.bounds.check_bounds.Tie as tie
 
--- past k checks, what the others give is the result
-Past : (k V₀ A₀ J₀ S₀ : ℕ) → Type 0
-Past k V₀ A₀ J₀ S₀ = (p : Result ℕ (Unit {0})) → Gives (drop k (boundChecks V₀ A₀ J₀ S₀)) (given tt) p → p ≡ boundsResult V₀ A₀ J₀ S₀
+check-bounds-to-jerk-requires : tie.Need-check-bounds-to-jerk-requires
+check-bounds-to-jerk-requires c κs = search needs
 
-past-1 : (c : tie.Else1) → let a = c .before .before .args in Past 1 (a .v) (a .acc) (a .j) (a .s)
-unfolding Past boundsResult
-past-1 c p g = skip (sym (c .before .out-of-range .ensures) ∙ c .if1 .left) g .is
+enum-told : tie.Need-enum-told
+enum-told c = search needs
 
-past-2 : (c : tie.Else2) → let a = c .before .before .before .before .args in Past 2 (a .v) (a .acc) (a .j) (a .s)
-unfolding Past
-past-2 c p g = past-1 (c .before .before) p (skip (sym (c .before .out-of-range2 .ensures) ∙ c .if2 .left) g)
+enum-told-2 : tie.Need-enum-told-2
+enum-told-2 c = search needs
 
-past-3 : (c : tie.Else3) → let a = c .before .before .before .before .before .before .args in Past 3 (a .v) (a .acc) (a .j) (a .s)
-unfolding Past
-past-3 c p g = past-2 (c .before .before) p (skip (sym (c .before .out-of-range3 .ensures) ∙ c .if3 .left) g)
+returns : tie.Need-returns
+unfolding boundsResult
+returns c =
+    let a = c .before .before .before .args in
+    let is = c .enum-told2 .given .1 in
+    ap boundsOutcome is
+    ∙ refused-on (boundChecksToJerk (a .v) (a .acc) (a .j)) (check 6 (outOfRange (a .s)) ∷ []) tt (given tt) _
+    (ap boundsOutcome (sym is) ∙ c .before .before .check-bounds-to-jerk .ensures)
+
+-- the snap's own check decides
+left :
+    (c : tie.After-out-of-range)
+    → let a = c .before .before .before .before .args in
+    firstRefusal (check 6 (outOfRange (a .s)) ∷ []) (given tt) ≡ boundsResult (boundChecks (a .v) (a .acc) (a .j) (a .s))
+unfolding boundsResult
+left c =
+    let a = c .before .before .before .before .args in
+    passed-on (boundChecksToJerk (a .v) (a .acc) (a .j)) (check 6 (outOfRange (a .s)) ∷ []) tt (given tt) _
+    (ap boundsOutcome (sym (c .before .enum-told .given .1)) ∙ c .before .before .before .check-bounds-to-jerk .ensures)
 
 out-of-range-requires : tie.Need-out-of-range-requires
 out-of-range-requires c κs = search needs
 
-returns : tie.Need-returns
-unfolding boundsResult
-returns c = stop (sym (c .before .out-of-range .ensures) ∙ c .if1 .taken) .is
-
-out-of-range-requires-2 : tie.Need-out-of-range-requires-2
-out-of-range-requires-2 c κs = search needs
-
 returns-2 : tie.Need-returns-2
-unfolding Past
-returns-2 c = past-1 (c .before .before) _ (stop (sym (c .before .out-of-range2 .ensures) ∙ c .if2 .taken))
-
-out-of-range-requires-3 : tie.Need-out-of-range-requires-3
-out-of-range-requires-3 c κs = search needs
+returns-2 c = stop (sym (c .before .out-of-range .ensures) ∙ c .if1 .taken) .is ∙ left (c .before)
 
 returns-3 : tie.Need-returns-3
-unfolding Past
-returns-3 c = past-2 (c .before .before) _ (stop (sym (c .before .out-of-range3 .ensures) ∙ c .if3 .taken))
-
-out-of-range-requires-4 : tie.Need-out-of-range-requires-4
-out-of-range-requires-4 c κs = search needs
-
-returns-4 : tie.Need-returns-4
-unfolding Past
-returns-4 c = past-3 (c .before .before) _ (stop (sym (c .before .out-of-range4 .ensures) ∙ c .if4 .taken))
-
-returns-5 : tie.Need-returns-5
-unfolding Past
-returns-5 c = past-3 (c .before .before) _ (skip (sym (c .before .out-of-range4 .ensures) ∙ c .if4 .left) none-left)
+returns-3 c = skip (sym (c .before .out-of-range .ensures) ∙ c .if1 .left) none-left .is ∙ left (c .before)
 
 pub check-bounds-spec : {M : Type 1} → statement M
 check-bounds-spec =
     tie.close
-    (tie.spec
-    out-of-range-requires
-    returns
-    out-of-range-requires-2
-    returns-2
-    out-of-range-requires-3
-    returns-3
-    out-of-range-requires-4
-    returns-4
-    returns-5)
+    (tie.spec check-bounds-to-jerk-requires enum-told enum-told-2 returns out-of-range-requires returns-2 returns-3)

@@ -7,17 +7,17 @@ use mir.Syntax.{w64}
 use mir.Facts.{toZ-ofZ}
 use lib.IntN.{natAbs}
 use Rattle.planner.specs.Quantities.{distance, unitsPerCount}
-use Rattle.planner.specs.Result.{given}
-use Rattle.planner.specs.Outcome.{mostCounts}
-use Rattle.planner.specs.Inner.Undivided.{moveOf, boundsOutcome}
+use Rattle.planner.specs.Result.{Result, given}
+use Rattle.planner.specs.Outcome.{mostCounts, boundChecksToJerk}
+use Rattle.planner.specs.Inner.Undivided.{moveOf, boundsOutcome, boundsResult}
 use Rattle.planner.specs.declared.Move.{Move}
-use Rattle.planner.proofs.FiguresChecks.{boundsOf, no-displacement, displacement-far, bound-refused, bounds-passed}
+use Rattle.planner.proofs.FiguresChecks.{no-displacement, displacement-far, bound-refused, bounds-passed}
 use Rattle.planner.proofs.figures.check_figures.Statement.{statement}
 use Rattle.planner.proofs.figures.check_figures.Tie as tie
 
--- the move of the arguments
+-- a move of the arguments: its bound on the snap is not asked
 sent : tie.Start → Move
-sent c = let a = c .args in moveOf (a .x) (a .v) (a .acc) (a .j) (a .s)
+sent c = let a = c .args in moveOf (a .x) (a .v) (a .acc) (a .j) 0
 
 -- the size that was found is the displacement's
 size : (c : tie.After-magnitude) → c .magnitude .result ≡ natAbs (c .before .args .x)
@@ -33,9 +33,12 @@ moves c h = c .if1 .left (size (c .before) ∙ h)
 near : (c : tie.Else2) → natAbs (c .before .before .before .args .x) ≤ mostCounts
 near c = omega (arith, size (c .before .before))
 
-in-range : (c : tie.After-enum-told) → given tt ≡ boundsOf (sent (c .before .before .before .before .before .before))
-unfolding sent
-in-range c = ap boundsOutcome (sym (c .enum-told .given .1)) ∙ c .before .before .check-bounds .ensures
+boundsAsked : tie.Start → Result ℕ (Unit {0})
+boundsAsked c = boundsResult (boundChecksToJerk (c .args .v) (c .args .acc) (c .args .j))
+
+in-range : (c : tie.After-enum-told) → given tt ≡ boundsAsked (c .before .before .before .before .before .before)
+unfolding boundsAsked
+in-range c = ap boundsOutcome (sym (c .enum-told .given .1)) ∙ c .before .before .check-bounds-to-jerk .ensures
 
 magnitude-requires : tie.Need-magnitude-requires
 magnitude-requires c κs = search needs
@@ -48,8 +51,8 @@ returns-2 : tie.Need-returns-2
 unfolding sent
 returns-2 c = displacement-far (sent (c .before .before .before)) (moves (c .before)) (omega (arith, size (c .before .before)))
 
-check-bounds-requires : tie.Need-check-bounds-requires
-check-bounds-requires c κs = search needs
+check-bounds-to-jerk-requires : tie.Need-check-bounds-to-jerk-requires
+check-bounds-to-jerk-requires c κs = search needs
 
 enum-known-bounds : tie.Need-enum-known-bounds
 enum-known-bounds c = search needs
@@ -57,18 +60,18 @@ enum-known-bounds c = search needs
 enum-told : tie.Need-enum-told
 enum-told c = search needs
 
-mul-t13 : tie.Need-mul-t13
-mul-t13 c = search needs
+mul-t12 : tie.Need-mul-t12
+mul-t12 c = search needs
 
 returns-3 : tie.Need-returns-3
 unfolding sent
 returns-3 c =
     let b = c .before .before .before .before in
     bound-refused (sent (c .before .before .before .before .before .before .before)) (moves (b .before)) (near b) _
-    (ap boundsOutcome (sym (c .before .bounds .given .1)) ∙ c .before .before .before .check-bounds .ensures)
+    (ap boundsOutcome (sym (c .before .bounds .given .1)) ∙ c .before .before .before .check-bounds-to-jerk .ensures)
 
 returns-4 : tie.Need-returns-4
-unfolding sent
+unfolding sent boundsAsked
 returns-4 c =
     let b = c .before .before .before in
     ap given (scaled (b .before .before))
@@ -81,9 +84,9 @@ check-figures-spec =
     magnitude-requires
     returns
     returns-2
-    check-bounds-requires
+    check-bounds-to-jerk-requires
     enum-known-bounds
     enum-told
-    mul-t13
+    mul-t12
     returns-3
     returns-4)

@@ -1,4 +1,4 @@
--- `undivided_plan` meets its contract: after the figures refusal 7 is left.
+-- `undivided_plan` meets its contract: after the figures that both orders read, refusals 6 and 7 are left.
 use borrow.Author.Needs.{needs}
 use mathlib.Core.Path.{_≡_, sym, ap, _∙_}
 use mir.Syntax.{w64}
@@ -6,7 +6,8 @@ use mir.Facts.{toZ-ofZ}
 use Rattle.planner.specs.Result.{given}
 use Rattle.planner.specs.Inner.Undivided.{moveOf, figuresOutcome, figuresResult}
 use Rattle.planner.specs.declared.Move.{Move}
-use Rattle.planner.proofs.FiguresChecks.{figures-refused, figures-passed, figures}
+use Rattle.planner.proofs.FiguresChecks.{figuresOf, figures}
+use Rattle.planner.proofs.UndividedAnswers.{undivided-refused, undivided-given}
 use Rattle.planner.proofs.in_range.undivided_plan.Statement.{statement}
 use Rattle.planner.proofs.in_range.undivided_plan.Tie as tie
 
@@ -14,11 +15,11 @@ use Rattle.planner.proofs.in_range.undivided_plan.Tie as tie
 abbrev sent : tie.Start → Move
 sent c = let a = c .args in moveOf (a .x) (a .v) (a .acc) (a .j) (a .s)
 
-answered : (c : tie.After-check-figures) → figuresOutcome (c .check-figures .result) ≡ figuresResult (sent (c .before))
+answered : (c : tie.After-check-figures) → figuresOutcome (c .check-figures .result) ≡ figuresOf (sent (c .before))
 answered c =
     let a = c .before .args in
     c .check-figures .ensures
-    ∙ ap (λ X. figuresResult (moveOf X (a .v) (a .acc) (a .j) (a .s))) (toZ-ofZ {w = w64} {z = a .x} (c .before .fits .x))
+    ∙ ap (λ X. figuresResult X (a .v) (a .acc) (a .j)) (toZ-ofZ {w = w64} {z = a .x} (c .before .fits .x))
 
 check-figures-requires : tie.Need-check-figures-requires
 check-figures-requires c κs = search needs
@@ -30,14 +31,16 @@ enum-known-figures-2 : tie.Need-enum-known-figures-2
 enum-known-figures-2 c = search needs
 
 undivided-in-range-requires : tie.Need-undivided-in-range-requires
-undivided-in-range-requires c κs = figures _ (ap figuresOutcome (sym (c .before .figures2 .given .1)) ∙ answered (c .before .before .before))
+undivided-in-range-requires c κs =
+    figures (sent (c .before .before .before .before))
+    (ap figuresOutcome (sym (c .before .figures2 .given .1)) ∙ answered (c .before .before .before))
 
 returns : tie.Need-returns
-returns c = figures-refused _ _ (ap figuresOutcome (sym (c .before .figures .given .1)) ∙ answered (c .before .before .before))
+returns c = undivided-refused _ _ (ap figuresOutcome (sym (c .before .figures .given .1)) ∙ answered (c .before .before .before))
 
 returns-2 : tie.Need-returns-2
 returns-2 c =
-    figures-passed _ (ap figuresOutcome (sym (c .before .before .figures2 .given .1)) ∙ answered (c .before .before .before .before))
+    undivided-given _ (ap figuresOutcome (sym (c .before .before .figures2 .given .1)) ∙ answered (c .before .before .before .before))
     (c .undivided-in-range .ensures)
 
 pub undivided-plan-spec : {M : Type 1} → statement M

@@ -4,7 +4,7 @@ use Prim.Native.Nat.{_-_}
 use native.Mathlib.Omega.{arith}
 use mir.Syntax.{w64}
 use mir.Facts.{toZ-ofZ}
-use Rattle.motion.specs.Inner.SnapLevels.{AreLevels}
+use Rattle.motion.specs.Inner.SwitchedLevels.{AreLevels}
 use Rattle.motion.specs.Inner.Runs.{Ran}
 use Rattle.motion.specs.Inner.Rows.{forceWriter}
 use Rattle.motion.specs.Inner.SegmentLists.{segmentsOf}

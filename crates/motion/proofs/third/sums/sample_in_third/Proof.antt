@@ -9,10 +9,10 @@ use lib.IntN.{ℤ, pos}
 use Rattle.planner.specs.declared.ThirdPlan.{ThirdPlan}
 use Rattle.planner.specs.Third.{thirdIntervalsIn}
 use Rattle.profile.specs.Inner.Widths.{switchedBy}
-use Rattle.motion.specs.declared.snap.Levels.{Levels}
+use Rattle.motion.specs.declared.switched.Levels.{Levels}
 use Rattle.motion.specs.Sampling.{Values}
 use Rattle.motion.specs.Inner.Planned.{thirdWidthsOf, thirdValuesIn, valuesIn, IsSampleOf}
-use Rattle.motion.specs.Inner.SnapLevels.{AreLevels}
+use Rattle.motion.specs.Inner.SwitchedLevels.{AreLevels}
 use Rattle.motion.specs.Inner.Steps.{ThirdStepsFitBy, thirdStateAt}
 use Rattle.motion.proofs.ThirdStates.{directedJerk, third-values, third-step-fits, jerk-small}
 use Rattle.motion.proofs.DirectedValue.{directed-jerk}

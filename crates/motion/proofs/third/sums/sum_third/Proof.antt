@@ -12,7 +12,7 @@ use Rattle.planner.specs.Third.{thirdIntervalsIn}
 use Rattle.profile.specs.Inner.Widths.{switchedBy}
 use Rattle.motion.specs.Inner.Planned.{thirdWidthsOf}
 use Rattle.motion.specs.declared.state.State.{State}
-use Rattle.motion.specs.declared.snap.Levels.{Levels}
+use Rattle.motion.specs.declared.switched.Levels.{Levels}
 use Rattle.motion.proofs.ThirdStates.{Summed, summed-first, summed-fits, summed-next, summed-at}
 use Rattle.motion.proofs.third.sums.sum_third.Statement.{statement}
 use Rattle.motion.proofs.third.sums.sum_third.Tie as tie
@@ -35,8 +35,8 @@ loop-holds c = (omega (arith, ap (λ (s : State). s .sample) (c .at-rest .ensure
 jerk-at-requires : tie.Need-jerk-at-requires Inv-loop μ-loop
 jerk-at-requires c κs = tt
 
-holding-requires : tie.Need-holding-requires Inv-loop μ-loop
-holding-requires c κs = tt
+with-jerk-requires : tie.Need-with-jerk-requires Inv-loop μ-loop
+with-jerk-requires c κs = tt
 
 -- the jerk that was found, as it is passed on
 jerk-read :
@@ -48,25 +48,25 @@ jerk-read c = toZ-ofZ {w = w64} {z = c .jerk-at .result} (record { sfits = c .je
 step-requires : tie.Need-step-requires Inv-loop μ-loop
 step-requires c κs =
     let d = c .before .before .before .before in
-    summed-fits (d .loop .inv .1) (jerk-read (c .before)) (c .holding .ensures)
+    summed-fits (d .loop .inv .1) (jerk-read (c .before)) (c .with-jerk .ensures)
     (d .before .before .pre .step-fits _ (c .before .before .if1 .taken))
 
 loop-less : tie.Need-loop-less Inv-loop μ-loop
 loop-less c =
-    omega (arith, ap (λ (s : State). s .sample) (c .step .ensures), ap (λ (s : State). s .sample) (c .before .holding .ensures))
+    omega (arith, ap (λ (s : State). s .sample) (c .step .ensures), ap (λ (s : State). s .sample) (c .before .with-jerk .ensures))
 
 loop-again : tie.Need-loop-again Inv-loop μ-loop
 loop-again c = (
-  omega (arith, ap (λ (s : State). s .sample) (c .step .ensures), ap (λ (s : State). s .sample) (c .before .holding .ensures)),
-  summed-next (c .before .before .before .before .before .loop .inv .1) (jerk-read (c .before .before)) (c .before .holding .ensures)
+  omega (arith, ap (λ (s : State). s .sample) (c .step .ensures), ap (λ (s : State). s .sample) (c .before .with-jerk .ensures)),
+  summed-next (c .before .before .before .before .before .loop .inv .1) (jerk-read (c .before .before)) (c .before .with-jerk .ensures)
       (c .step .ensures),
 )
 
 jerk-at-requires-2 : tie.Need-jerk-at-requires-2 Inv-loop μ-loop
 jerk-at-requires-2 c κs = tt
 
-holding-requires-2 : tie.Need-holding-requires-2 Inv-loop μ-loop
-holding-requires-2 c κs = tt
+with-jerk-requires-2 : tie.Need-with-jerk-requires-2 Inv-loop μ-loop
+with-jerk-requires-2 c κs = tt
 
 returns : tie.Need-returns Inv-loop μ-loop
 returns c =
@@ -74,7 +74,7 @@ returns c =
     let d = c .before .before in
     let inv = d .before .before .loop .inv in
     summed-at (inv .1) (le-antisymm (inv .0) (d .if1 .left))
-    (toZ-ofZ {w = w64} {z = j .result} (record { sfits = j .ok }) ∙ j .ensures) (c .holding2 .ensures)
+    (toZ-ofZ {w = w64} {z = j .result} (record { sfits = j .ok }) ∙ j .ensures) (c .with-jerk2 .ensures)
 
 pub sum-third-spec : {M : Type 1} → statement M
 sum-third-spec =
@@ -85,10 +85,10 @@ sum-third-spec =
     at-rest-requires
     loop-holds
     jerk-at-requires
-    holding-requires
+    with-jerk-requires
     step-requires
     loop-less
     loop-again
     jerk-at-requires-2
-    holding-requires-2
+    with-jerk-requires-2
     returns)

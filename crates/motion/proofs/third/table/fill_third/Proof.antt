@@ -1,10 +1,10 @@
 -- `fill_third` meets its contract. The loop's invariant: the segments that are left come to the same as all of them.
-use mathlib.Core.Path.{ap, subst}
+use mathlib.Core.Path.{subst}
 use Prim.Native.Nat.{_-_}
 use native.Mathlib.Omega.{arith}
 use mir.Syntax.{w64}
 use mir.Facts.{toZ-ofZ}
-use Rattle.motion.specs.Inner.SnapLevels.{AreLevels}
+use Rattle.motion.specs.Inner.SwitchedLevels.{AreLevels}
 use Rattle.motion.specs.Inner.Steps.{sumsIn}
 use Rattle.motion.specs.Inner.Runs.{thirdWriter, Ran}
 use Rattle.motion.specs.Inner.SegmentLists.{SegmentAt}
@@ -55,8 +55,8 @@ next :
     (c .segment-at .result)
 next c = in-eight _ (omega (arith, c .before .loop-test .taken)) (c .segment-at .ensures)
 
-store-held-requires : tie.Need-store-held-requires Inv-loop μ-loop
-store-held-requires c κs =
+store-with-jerk-requires : tie.Need-store-with-jerk-requires Inv-loop μ-loop
+store-with-jerk-requires c κs =
     let s = c .before .before in
     segment-can-run (s .before .before .loop .inv) (next s)
     (toZ-ofZ {w = w64} {z = s .segment-at .result .level} (record { sfits = c .struct-told .given .1 .0 .1 }))
@@ -74,7 +74,7 @@ loop-again c =
     let r = s .before .before .before .before in
     next-segment (s .before .before .loop .inv) (next s)
     (toZ-ofZ {w = w64} {z = s .segment-at .result .level} (record { sfits = d .struct-told .given .1 .0 .1 }))
-    (omega (arith, s .before .loop-test .taken, eight (r .third-durations .result))) (c .before .store-held .ensures)
+    (omega (arith, s .before .loop-test .taken, eight (r .third-durations .result))) (c .before .store-with-jerk .ensures)
 
 ran :
     (c : tie.After-loop Inv-loop μ-loop)
@@ -97,4 +97,4 @@ pub fill-third-spec : {M : Type 1} → statement M
 fill-third-spec =
     tie.close
     (tie.spec Inv-loop μ-loop levels-of-requires third-durations-requires at-rest-requires loop-holds segment-at-requires
-    store-held-requires add-i loop-less loop-again same-length returns)
+    store-with-jerk-requires add-i loop-less loop-again same-length returns)

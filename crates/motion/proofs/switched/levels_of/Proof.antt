@@ -10,8 +10,8 @@ use mir.Facts.{toZ-ofZ}
 use lib.IntN.{pos, negℤ, _-ℤ_, negℤ-negℤ}
 use Rattle.planner.proofs.Sign.{negative-fits, negated}
 use Rattle.planner.proofs.DirectionLaws.{along-negative, along-positive}
-use Rattle.motion.proofs.snap.levels_of.Statement.{statement}
-use Rattle.motion.proofs.snap.levels_of.Tie as tie
+use Rattle.motion.proofs.switched.levels_of.Statement.{statement}
+use Rattle.motion.proofs.switched.levels_of.Tie as tie
 
 module _ (n : ℕ) (h : n ≤ 2 ^ 60) where
   -- D as a signed number, and its negative

@@ -3,8 +3,8 @@ use borrow.Author.Needs.{needs}
 use mathlib.Core.Path.{_∙_}
 use mir.Syntax.{w64}
 use mir.Facts.{toZ-ofZ}
-use Rattle.motion.proofs.snap.jerk_at.Statement.{statement}
-use Rattle.motion.proofs.snap.jerk_at.Tie as tie
+use Rattle.motion.proofs.switched.jerk_at.Statement.{statement}
+use Rattle.motion.proofs.switched.jerk_at.Tie as tie
 
 value-inside-requires : tie.Need-value-inside-requires
 value-inside-requires c κs = search needs

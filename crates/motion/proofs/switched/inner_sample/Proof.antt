@@ -6,8 +6,8 @@ use mir.Val.{toZ, ofZ}
 use mir.Facts.{toZ-ofZ}
 use Rattle.motion.specs.Inner.InnerSamples.{SameValue}
 use Rattle.motion.proofs.InnerSampleLaws.{before, past}
-use Rattle.motion.proofs.snap.inner_sample.Statement.{statement}
-use Rattle.motion.proofs.snap.inner_sample.Tie as tie
+use Rattle.motion.proofs.switched.inner_sample.Statement.{statement}
+use Rattle.motion.proofs.switched.inner_sample.Tie as tie
 
 -- the levels as they were passed
 positive :

@@ -9,7 +9,7 @@ ghost use Rattle.profile.specs.Inner.Widths.{switchedBy};
 ghost use Rattle.planner.specs.Outcome.{intervalsIn};
 ghost use Rattle.planner.specs.Third.{thirdIntervalsIn};
 ghost use Rattle.motion.specs.Inner.Planned.{widthsOf, thirdWidthsOf};
-ghost use Rattle.motion.specs.Inner.SnapLevels.{AreLevels};
+ghost use Rattle.motion.specs.Inner.SwitchedLevels.{AreLevels};
 ghost use Rattle.motion.specs.Inner.InnerSamples.{SameValue};
 
 // The value in the segments with + and in those with −.

@@ -4,8 +4,8 @@ use mathlib.Core.List.{[], _∷_}
 use mathlib.Core.Path.{sym, _∙_}
 use mir.Syntax.{w64}
 use mir.Facts.{toZ-ofZ}
-use Rattle.motion.proofs.snap.snap_at.Statement.{statement}
-use Rattle.motion.proofs.snap.snap_at.Tie as tie
+use Rattle.motion.proofs.switched.snap_at.Statement.{statement}
+use Rattle.motion.proofs.switched.snap_at.Tie as tie
 
 inner-sample-requires : tie.Need-inner-sample-requires
 inner-sample-requires c κs = search needs

@@ -6,8 +6,8 @@ use mir.Syntax.{w64}
 use mir.Facts.{toZ-ofZ}
 use Rattle.profile.specs.Inner.Widths.{switchedBy}
 use Rattle.motion.proofs.InnerSampleLaws.{inside, outside}
-use Rattle.motion.proofs.snap.value_inside.Statement.{statement}
-use Rattle.motion.proofs.snap.value_inside.Tie as tie
+use Rattle.motion.proofs.switched.value_inside.Statement.{statement}
+use Rattle.motion.proofs.switched.value_inside.Tie as tie
 
 inner-sample-requires : tie.Need-inner-sample-requires
 inner-sample-requires c κs = search needs

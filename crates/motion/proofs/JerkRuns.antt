@@ -1,10 +1,10 @@
 -- A segment of a third-order table: a run over no snap from a state that holds the jerk is a run over that jerk.
-use mathlib.Core.List.{List, [], _∷_}
+use mathlib.Core.List.{List}
 use mathlib.Core.Path.{_≡_, refl, sym, ap, subst, _∙_}
 use Prim.Native.Nat.{ℕ, zero, suc}
 use native.Mathlib.Omega.{arith}
 use lib.IntN.{ℤ, pos, +ℤ-idr}
-use lib.ListN.{length, set, replicate, length-replicate}
+use lib.ListN.{set, replicate, length-replicate}
 use Rattle.motion.specs.declared.state.State.{State}
 use Rattle.motion.specs.Inner.Steps.{stepped, Sums, sumsIn, withJerk, summed}
 use Rattle.motion.specs.Inner.Runs.{positionWriter, thirdWriter, after, stored, StepsFit, CanRun, Ran}
