@@ -28,9 +28,12 @@ pub record PassedOn {R A B : Type 0} (o : Result R A) (p : Result R B) : Type 0 
   pub refused-by : o ≡ refused refusal
   pub refused-with : p ≡ refused refusal
 
--- The widths of the intervals around a, the outermost first.
+-- The widths of the intervals around a, the outermost first; in the third order around b.
 abbrev pub widthsOf : Intervals → List ℕ
 widthsOf t = t .e ∷ t .c ∷ t .b ∷ []
+
+abbrev pub thirdWidthsOf : ThirdIntervals → List ℕ
+thirdWidthsOf t = t .e ∷ t .c ∷ []
 
 -- The intervals follow each other, and the way from the first to the last sample fits, as does the velocity.
 pub record WithinRange (t : Intervals) (D : ℕ) : Type 0 where
@@ -82,20 +85,6 @@ pub record WritesRows {A : Type 0} (own : List (Check ℕ)) (rows : ℕ) (row : 
   pub outcome-is : o ≡ firstRefusal (check 8 (ltb (length old) rows) ∷ own) (given rows)
   pub table-is : new ≡ tableOf o (rowsFrom row 0 rows) old
 
--- The same of a third-order plan.
-abbrev pub ThirdPlanInRange : ThirdPlan → Type 0
-ThirdPlanInRange x = ThirdWithinRange (thirdIntervalsIn x) (x .jerk)
-
-abbrev pub thirdSamplesIn : ThirdPlan → ℕ
-thirdSamplesIn x = N₃ (thirdIntervalsIn x)
-
-abbrev pub thirdValuesIn : ℤ → ThirdPlan → ℕ → Values
-thirdValuesIn X x = thirdValuesAt X (thirdIntervalsIn x) (x .jerk)
-
--- The widths around b, and the jerk by them.
-abbrev pub thirdWidthsOf : ThirdIntervals → List ℕ
-thirdWidthsOf t = t .e ∷ t .c ∷ []
-
 -- The same of a plan as the code has it.
 abbrev pub PlanInRange : Plan → Type 0
 PlanInRange x = WithinRange (intervalsIn x) (x .snap)
@@ -108,3 +97,13 @@ positionsIn X x = directedPosition X (intervalsIn x) (x .snap)
 
 abbrev pub numbersIn : ℤ → Plan → ℕ → Doubled ℤ
 numbersIn X x = plannedNumbers X (intervalsIn x) (x .snap)
+
+-- The same of a third-order plan.
+abbrev pub ThirdPlanInRange : ThirdPlan → Type 0
+ThirdPlanInRange x = ThirdWithinRange (thirdIntervalsIn x) (x .jerk)
+
+abbrev pub thirdSamplesIn : ThirdPlan → ℕ
+thirdSamplesIn x = N₃ (thirdIntervalsIn x)
+
+abbrev pub thirdValuesIn : ℤ → ThirdPlan → ℕ → Values
+thirdValuesIn X x = thirdValuesAt X (thirdIntervalsIn x) (x .jerk)

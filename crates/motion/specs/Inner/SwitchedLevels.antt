@@ -1,4 +1,4 @@
--- The levels of the snap.
+-- The levels of the switched value.
 use mathlib.Core.Path.{_≡_}
 use Prim.Native.Nat.{ℕ}
 use lib.IntN.{ℤ, pos, negℤ}
