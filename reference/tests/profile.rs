@@ -13,7 +13,7 @@ const TABLES: [Fill; 2] = [position_table, reference_table];
 
 /// Accepted moves in both directions, with p q r s zero and not.
 fn moves(order: Order) -> impl Iterator<Item = Move> {
-    // In the second D is 2 and nearly 3: few moves fall short as much.
+    // In fourth order the second has D = 2, nearly 3: few moves fall short as much.
     let mut list = vec![(1 << 20, [1 << 50; 4]), (1, [1 << 50, 1 << 50, 1 << 50, 3])];
     for shape in 0..54 {
         let [p, q, r, s] = [1 + shape % 2, shape / 2 % 3, shape / 6 % 3, shape / 18];

@@ -17,7 +17,7 @@ use Rattle.planner.proofs.Acceptance.{accepted-passes, third-passes}
 use Rattle.planner.proofs.PlannedFacts.{rule-facts}
 use Rattle.planner.proofs.ThirdTheorems.{third-rule-facts}
 use Rattle.profile.specs.Inner.Widths.{span, product}
-use Rattle.motion.specs.Sampling.{valuesOf, exactPositionTimesP, thirdValuesAt, thirdValuesOf, thirdExactTimesP, Motion, fourthOrder, thirdOrder, sampleWith, Samples}
+use Rattle.motion.specs.Sampling.{valuesOf, exactPositionTimesP, thirdValuesAt, thirdValuesOf, thirdExactPositionTimesP, Motion, fourthOrder, thirdOrder, sampleWith, Samples}
 use Rattle.motion.specs.Tables.{FillsPositions}
 use Rattle.motion.specs.Demand3.{Kept, Demand3Of, Demand3Claim, ThirdDemand3Claim}
 use Rattle.motion.specs.declared.Sample.{Sample}
@@ -69,8 +69,8 @@ demand-3 m h sample promised old new rows room filled =
 
 third-kept :
     (m : Move) → ThirdAccepted m
-    → Kept m (thirdSamplesOf m) (P₃ (thirdIntervalsOf m)) (thirdExactTimesP m) (λ k. withRounding (thirdValuesOf m k))
-unfolding thirdSamplesOf thirdValuesOf thirdExactTimesP span product
+    → Kept m (thirdSamplesOf m) (P₃ (thirdIntervalsOf m)) (thirdExactPositionTimesP m) (λ k. withRounding (thirdValuesOf m k))
+unfolding thirdSamplesOf thirdValuesOf thirdExactPositionTimesP span product
 third-kept m h =
     kept-any (third-keeps (third-rule-facts m h)) (third-follows (m .displacement) (thirdIntervalsOf m) _)
     (third-follows (m .displacement) (thirdIntervalsOf m) (distanceOf m) .position-is)

@@ -14,7 +14,7 @@ use Rattle.profile.specs.Inner.Repeated.{sums}
 use Rattle.profile.specs.Inner.Widths.{product, Spread}
 use Rattle.profile.specs.Inner.Facts.{jerkOver}
 use Rattle.profile.proofs.SumLaws.{sums-negated}
-use Rattle.profile.proofs.SizeLaws as size
+use Rattle.profile.proofs.SumSizes as size
 use Rattle.motion.specs.Inner.Steps.{StepFits, thirdStateAt}
 use Rattle.motion.proofs.IntegerLaws.{small-fits}
 

@@ -19,7 +19,7 @@ use Rattle.profile.specs.Profile as profile
 use Rattle.profile.specs.Inner.Widths.{span, product, Spread}
 use Rattle.profile.specs.Inner.Facts.{jerkOver}
 use Rattle.profile.proofs.AnyOrder.{any-order-end}
-use Rattle.motion.specs.Sampling.{Values, valuesAt, thirdValuesAt, exactPositionTimesP, thirdExactTimesP, unitsOf}
+use Rattle.motion.specs.Sampling.{Values, valuesAt, thirdValuesAt, exactPositionTimesP, thirdExactPositionTimesP, unitsOf}
 use Rattle.motion.specs.AxesClaims.{AxisExactProfileClaim}
 use Rattle.motion.specs.Demand3.{ExactIn, ExactProfileClaim, ThirdExactProfileClaim}
 use Rattle.motion.proofs.IntegerLaws.{multiple-negated}
@@ -44,7 +44,7 @@ whole-end m a inner c e s w =
     ∙ whole-way (m .displacement) (product a (e ∷ c ∷ inner))
 
 pub third-exact-profile : ThirdExactProfileClaim
-unfolding thirdExactTimesP thirdValuesAt span product
+unfolding thirdExactPositionTimesP thirdValuesAt span product
 third-exact-profile m =
     let t = thirdIntervalsOf m in
     record {

@@ -19,7 +19,7 @@ use Rattle.planner.proofs.EachLaws.{each-joined}
 use Rattle.planner.proofs.OrderLaws.{first-given}
 use Rattle.planner.proofs.RefusalLaws.{Passes}
 use Rattle.planner.proofs.RuleRefusals.{Has, refusal-has, OtherThanSix, third-checks-other}
-use Rattle.motion.specs.Sampling.{thirdValuesOf, thirdExactTimesP, Motion, fourthOrder, thirdOrder, sampleWith, Samples}
+use Rattle.motion.specs.Sampling.{thirdValuesOf, thirdExactPositionTimesP, Motion, fourthOrder, thirdOrder, sampleWith, Samples}
 use Rattle.motion.specs.ForceRows.Machine.{Machine, machineAsRead, machineInRange}
 use Rattle.motion.specs.Tables.{machineCheck, rowsFrom, tableOf, tableResult, Fills, FillsPositions, FillsReference, FillsForce}
 use Rattle.motion.specs.Claims.{Only, only, RefusedBy, ForceReason, AcceptedRefusals, AcceptedRefusalsClaim, UntouchedClaim, OrderClaim, SnapUnreadMotionClaim}
@@ -162,7 +162,7 @@ unfolding tableResult
 table-never-six m p = third-never-six m 8 _ _ (omega arith) (p .outcome-is)
 
 pub snap-unread-motion : (m : Move) → SnapUnreadMotionClaim m
-unfolding thirdSamplesOf thirdIntervalsOf thirdValuesOf thirdExactTimesP sampleWith FillsPositions FillsReference
+unfolding thirdSamplesOf thirdIntervalsOf thirdValuesOf thirdExactPositionTimesP sampleWith FillsPositions FillsReference
 snap-unread-motion m =
     record {
       sample = λ S₀ k o p. record { rounding = p .rounding; outcome-is = p .outcome-is };

@@ -12,7 +12,7 @@ use Rattle.profile.specs.Inner.Repeated.{sums}
 use Rattle.profile.specs.Profile as profile
 use Rattle.profile.specs.Inner.Widths.{product, Spread}
 use Rattle.profile.proofs.ValueLaws.{value-size}
-use Rattle.profile.proofs.SizeLaws as size
+use Rattle.profile.proofs.SumSizes as size
 use Rattle.motion.specs.Sampling.{valuesAt}
 use Rattle.motion.specs.declared.state.State.{State}
 use Rattle.motion.specs.Inner.Steps.{StepFits, stateAt}

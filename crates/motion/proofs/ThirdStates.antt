@@ -9,7 +9,7 @@ use Rattle.planner.specs.Third.{ThirdIntervals}
 use Rattle.profile.specs.Profile.{switchedIn, sum}
 use Rattle.profile.specs.Inner.Repeated.{sums}
 use Rattle.profile.specs.Inner.Widths.{product}
-use Rattle.profile.proofs.SizeLaws as size
+use Rattle.profile.proofs.SumSizes as size
 use Rattle.motion.specs.Sampling.{thirdValuesAt}
 use Rattle.motion.specs.declared.state.State.{State}
 use Rattle.motion.specs.Inner.Steps.{rest, StepFits, stepped, sumsIn, withJerk, summed, sumsAt, thirdStateAt}

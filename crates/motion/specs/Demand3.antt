@@ -15,7 +15,7 @@ use Rattle.planner.specs.Third.{ThirdIntervals, N₃, P₃, thirdIntervalsOf, t
 use Rattle.planner.specs.ThirdClaims.{ThirdAccepted}
 use Rattle.planner.specs.declared.Move.{Move}
 use Rattle.profile.specs.Profile.{segments, sevenSegments, switchedIn, sum}
-use Rattle.motion.specs.Sampling.{exactPositionTimesP, thirdValuesOf, thirdExactTimesP, unitsOf, Motion, fourthOrder, thirdOrder, Samples}
+use Rattle.motion.specs.Sampling.{exactPositionTimesP, thirdValuesOf, thirdExactPositionTimesP, unitsOf, Motion, fourthOrder, thirdOrder, Samples}
 use Rattle.motion.specs.Tables.{FillsPositions}
 use Rattle.motion.specs.declared.Sample.{Sample}
 
@@ -126,4 +126,4 @@ abbrev pub ThirdExactProfileClaim : Type 0
 ThirdExactProfileClaim =
     (m : Move)
     → let t = thirdIntervalsOf m in
-    IsExactProfile m (N₃ t) (P₃ t) (thirdExactJerk m t) (thirdExactTimesP m)
+    IsExactProfile m (N₃ t) (P₃ t) (thirdExactJerk m t) (thirdExactPositionTimesP m)

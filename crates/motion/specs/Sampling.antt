@@ -58,8 +58,8 @@ module _ (m : Move) where
   unfoldable pub thirdValuesOf : (k : ℕ) → Values
   thirdValuesOf = thirdValuesAt (m .displacement) (thirdIntervalsOf m) (jerkSize (thirdIntervalsOf m) (distanceOf m))
 
-  unfoldable pub thirdExactTimesP : (k : ℕ) → ℤ
-  thirdExactTimesP k = thirdValuesAt (m .displacement) (thirdIntervalsOf m) (distanceOf m) k .position
+  unfoldable pub thirdExactPositionTimesP : (k : ℕ) → ℤ
+  thirdExactPositionTimesP k = thirdValuesAt (m .displacement) (thirdIntervalsOf m) (distanceOf m) k .position
 
 -- What the rules of one order say of a move: the planner's checks, N, P, the values at each sample, and E.
 pub record Motion : Type 0 where
@@ -86,7 +86,7 @@ thirdOrder m =
       samples = thirdSamplesOf m;
       product = P₃ (thirdIntervalsOf m);
       values = thirdValuesOf m;
-      exact = thirdExactTimesP m;
+      exact = thirdExactPositionTimesP m;
     }
 
 -- c counts in sub-count units: the paper's G·c.

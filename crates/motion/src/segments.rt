@@ -31,7 +31,8 @@ pub(crate) fn durations_of(plan: Plan, trailing: u64) -> Durations
     }
 }
 
-// The same of a third-order plan. Its seven segments are the first seven of the fifteen, and the trailing rows come after them.
+// The same of a third-order plan. Its seven segments are the first seven of the fifteen; the trailing rows come after them, and so stand in
+// the place of the eighth.
 pub(crate) fn third_durations(plan: ThirdPlan, trailing: u64) -> Durations
     requires { ⌜ ThirdOrdered (thirdIntervalsIn plan) ⌝ }
     ensures { λ d. ⌜ AreThirdDurations (thirdIntervalsIn plan) trailing d ⌝ }

@@ -57,7 +57,7 @@ fn inner_sample(outer: IntervalSample, width: u64) -> IntervalSample
     }
 }
 
-// The value inside the two intervals c and b around one of a samples.
+// The value inside the two intervals c and b around one of a samples; in the third order inside e and c around b.
 fn value_inside(outer: IntervalSample, c: u64, b: u64, a: u64) -> i64
     ensures { λ r. ⌜ r ≡ switchedBy a (c ∷ b ∷ []) (outer .positive) (outer .negative) (outer .sample) ⌝ }
 {

@@ -24,16 +24,17 @@ use Rattle.motion.proofs.Demand3.{demand-3, third-demand-3}
 use Rattle.motion.proofs.EntryLaws.{fourth-planned, third-planned}
 use Rattle.nitswolan.specs.Fields.{Answers, planFields, thirdPlanFields}
 use Rattle.nitswolan.specs.Claims.{AcceptedClaim}
-use Rattle.nitswolan.specs.Inner.{planSamples, thirdPlanSamples, SamplesFit}
+use Rattle.motion.specs.Inner.Planned.{samplesIn, thirdSamplesIn}
+use Rattle.nitswolan.specs.Inner.{SamplesFit}
 use Rattle.nitswolan.specs.declared.plan.PlanResult.{PlanResult}
 use Rattle.nitswolan.specs.declared.third.ThirdPlanResult.{ThirdPlanResult}
 use Rattle.nitswolan.proofs.StructLaws.{field-zero, field-given}
 
-pub samples-fit : {m : Move} (o : Result ℕ Plan) → Plans m o → SamplesFit planSamples o
+pub samples-fit : {m : Move} (o : Result ℕ Plan) → Plans m o → SamplesFit samplesIn o
 samples-fit (refused number) h = tt
 samples-fit (given x) h = planned-facts h .samples
 
-pub third-samples-fit : {m : Move} (o : Result ℕ ThirdPlan) → PlansThird m o → SamplesFit thirdPlanSamples o
+pub third-samples-fit : {m : Move} (o : Result ℕ ThirdPlan) → PlansThird m o → SamplesFit thirdSamplesIn o
 third-samples-fit (refused number) h = tt
 third-samples-fit (given x) h = third-facts h .samples
 

@@ -5,7 +5,8 @@ ghost use mathlib.Core.Path.{_≡_};
 ghost use Prim.Native.Nat.{_≤_};
 ghost use Rattle.planner.specs.Outcome.{outcome, mostSamples};
 ghost use Rattle.nitswolan.specs.Fields.{planFields};
-ghost use Rattle.nitswolan.specs.Inner.{planSamples, SamplesFit};
+ghost use Rattle.motion.specs.Inner.Planned.{samplesIn};
+ghost use Rattle.nitswolan.specs.Inner.{SamplesFit};
 
 // A plan: N, the intervals a, b, c and e, the size D of the snap, and the shortfall.
 #[repr(C)]
@@ -22,14 +23,14 @@ pub struct PlanResult {
 
 // N, the samples that the move takes.
 fn samples_of(plan: Plan) -> u64
-    requires { ⌜ planSamples plan ≤ mostSamples ⌝ }
-    ensures { λ r. ⌜ r ≡ planSamples plan ⌝ }
+    requires { ⌜ samplesIn plan ≤ mostSamples ⌝ }
+    ensures { λ r. ⌜ r ≡ samplesIn plan ⌝ }
 {
     plan.a + plan.b + plan.c + plan.e
 }
 
 pub(crate) fn plan_result(answer: PlanAnswer) -> PlanResult
-    requires { ⌜ SamplesFit planSamples (outcome answer) ⌝ }
+    requires { ⌜ SamplesFit samplesIn (outcome answer) ⌝ }
     ensures { λ r. ⌜ r ≡ planFields (outcome answer) ⌝ }
 {
     match answer {

@@ -6,7 +6,8 @@ ghost use Prim.Native.Nat.{_≤_};
 ghost use Rattle.planner.specs.Outcome.{mostSamples};
 ghost use Rattle.planner.specs.Third.{thirdOutcome};
 ghost use Rattle.nitswolan.specs.Fields.{thirdPlanFields};
-ghost use Rattle.nitswolan.specs.Inner.{thirdPlanSamples, SamplesFit};
+ghost use Rattle.motion.specs.Inner.Planned.{thirdSamplesIn};
+ghost use Rattle.nitswolan.specs.Inner.{SamplesFit};
 
 // A third-order plan: N, the intervals b, c and e, the size of the jerk, and the shortfall.
 #[repr(C)]
@@ -21,21 +22,21 @@ pub struct ThirdPlanResult {
 }
 
 // N, the samples that the move takes.
-fn samples_of(plan: ThirdPlan) -> u64
-    requires { ⌜ thirdPlanSamples plan ≤ mostSamples ⌝ }
-    ensures { λ r. ⌜ r ≡ thirdPlanSamples plan ⌝ }
+fn third_samples_of(plan: ThirdPlan) -> u64
+    requires { ⌜ thirdSamplesIn plan ≤ mostSamples ⌝ }
+    ensures { λ r. ⌜ r ≡ thirdSamplesIn plan ⌝ }
 {
     plan.b + plan.c + plan.e
 }
 
 pub(crate) fn third_plan_result(answer: ThirdAnswer) -> ThirdPlanResult
-    requires { ⌜ SamplesFit thirdPlanSamples (thirdOutcome answer) ⌝ }
+    requires { ⌜ SamplesFit thirdSamplesIn (thirdOutcome answer) ⌝ }
     ensures { λ r. ⌜ r ≡ thirdPlanFields (thirdOutcome answer) ⌝ }
 {
     match answer {
         ThirdAnswer::Planned(plan) => ThirdPlanResult {
             refusal: 0,
-            samples: samples_of(plan),
+            samples: third_samples_of(plan),
             b: plan.b,
             c: plan.c,
             e: plan.e,

@@ -60,8 +60,9 @@ mirrored m =
 abbrev pub MirrorClaim : Type 0
 MirrorClaim = (m : Move) → Accepted m ↔ Accepted (mirrored m)
 
--- What `least` gives is the least number, for every target and every reach with n ≤ reach n. So has each of the ten searches of a move in
--- range, since its factor, S or one of the bounds that are carried on, is at least 1 (`ten-least`).
+-- What `least` gives is the least number, for every target and every reach with n ≤ reach n. Each of the ten searches of a move in range has
+-- such a reach (`ten-least`), and so has each of the third order's six (`six-least`), since its factor is at least 1: S, J or a bound that is
+-- carried on.
 abbrev pub LeastClaim : Type 0
 LeastClaim = (target : ℕ) (reach : ℕ → ℕ) → ((n : ℕ) → n ≤ reach n) → IsLeast target reach (least target reach)
 

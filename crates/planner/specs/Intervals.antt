@@ -36,7 +36,18 @@ interval-c W V₀ A₁ a b =
 unfoldable pub interval-e : (W V₁ a b c : ℕ) → ℕ
 interval-e W V₁ a b c = max (a + b + c) (least W (λ n. V₁ * n))
 
--- From b on, in the paper's order. Both orders of plans follow these rules, the third (document 02, 3) with a = 0 and J₁ = J₀.
+-- In the paper's order, for a move with distance W: up to b.
+module _ (W V₀ A₀ J₀ S₀ : ℕ) where
+  unfoldable pub a : ℕ
+  a = interval-a W V₀ A₀ J₀ S₀
+
+  unfoldable pub J₁ : ℕ
+  J₁ = min J₀ (S₀ * a)
+
+  unfoldable pub b : ℕ
+  b = interval-b W V₀ A₀ J₁ a
+
+-- From b on. Both orders of plans follow these rules, the third (document 02, 3) with a = 0 and J₁ = J₀.
 module _ (W V₀ A₀ J₁ a b : ℕ) where
   unfoldable pub A₁ : ℕ
   A₁ = min A₀ (J₁ * b)
@@ -49,17 +60,6 @@ module _ (W V₀ A₀ J₁ a b : ℕ) where
 
   unfoldable pub e : ℕ
   e = interval-e W V₁ a b c
-
--- The intervals of a move with distance W.
-module _ (W V₀ A₀ J₀ S₀ : ℕ) where
-  unfoldable pub a : ℕ
-  a = interval-a W V₀ A₀ J₀ S₀
-
-  unfoldable pub J₁ : ℕ
-  J₁ = min J₀ (S₀ * a)
-
-  unfoldable pub b : ℕ
-  b = interval-b W V₀ A₀ J₁ a
 
 -- What a rule from b on gives for these numbers.
 abbrev pub fromB : ((W V₀ A₀ J₁ a b : ℕ) → ℕ) → (W V₀ A₀ J₀ S₀ : ℕ) → ℕ

@@ -70,7 +70,7 @@ module _ (m : Move) where
   pub record PlansThird (o : Result ℕ ThirdPlan) : Type 0 where
     pub outcome-is : o ≡ thirdOutcomeOf
 
--- Every field of every case is read, so different answers have different outcomes (the theorem `one-third-answer`).
+-- Every field of every case is read, so different answers have different outcomes (`third-injective`).
 abbrev pub thirdOutcome : ThirdAnswer → Result ℕ ThirdPlan
 thirdOutcome (Planned x) = given x
 thirdOutcome (Refused x) = refused (number x)

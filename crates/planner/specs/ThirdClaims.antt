@@ -62,7 +62,8 @@ abbrev pub SnapUnreadClaim : Type 0
 SnapUnreadClaim = (m : Move) (S₀ : ℕ) (o : Result ℕ ThirdPlan) → PlansThird m o → PlansThird (withSnap S₀ m) o
 
 module _ (m : Move) where
-  -- b is what the base's rule gives for a = 0 and J1 = J; the seven segments take N samples; and "With N ≤ 4,096" P is at most 2^31.
+  -- b is what the base's rule gives for a = 0 and J1 = J; the seven segments take N samples; and where N is at most 4,096, P is at most
+  -- 2^31, which no rule asks.
   pub record ThirdIntervalClaim : Type 0 where
     pub base-b : thirdIntervalsOf m .b ≡ interval-b (distanceOf m) (m .velocity) (m .acceleration) (m .jerk) 0
     pub durations : let t = thirdIntervalsOf m in N₃ t ≡ 4 * t .b + 2 * (t .c - t .b) + (t .e - t .b - t .c)

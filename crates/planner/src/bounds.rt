@@ -34,7 +34,7 @@ pub(crate) fn check_bounds_to_jerk(v: u64, acc: u64, j: u64) -> BoundsAnswer
     BoundsAnswer::InRange
 }
 
-// Refusals 3 to 6.
+// Refusals 3 to 6, for an axis at rest. Of a move 6 is asked where its intervals are found.
 pub(crate) fn check_bounds(v: u64, acc: u64, j: u64, s: u64) -> BoundsAnswer
     ensures { λ r. ⌜ boundsOutcome r ≡ boundsResult (boundChecks v acc j s) ⌝ }
 {

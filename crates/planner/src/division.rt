@@ -1,4 +1,4 @@
-// From four intervals to their plan.
+// From intervals to the size of what is switched and the shortfall.
 use crate::Plan;
 ghost use mathlib.Core.Path.{_≡_};
 ghost use Prim.Native.Nat.{_-_, _*_, _/_, _^_, _≤_};

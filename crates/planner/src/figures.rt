@@ -10,7 +10,7 @@ ghost use Rattle.planner.specs.Inner.Undivided.{figuresOutcome, figuresR
 // The farthest displacement, either way.
 const MOST_COUNTS: u64 = 1_048_576;
 
-// The distance W of a move in range.
+// The distance W where none of these refusals applies. The bound on the snap is not looked at.
 pub(crate) enum FiguresAnswer {
     InRange(u64),
     Refused(Refusal),

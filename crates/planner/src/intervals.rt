@@ -48,6 +48,7 @@ fn interval_b(w: u64, v: u64, acc: u64, j1: u64, a: u64) -> u64
     requires { ⌜ (w ≤ 2 ^ 60) × BoundInRange v × BoundInRange acc × BoundInRange j1 × (a ≤ 4097) ⌝ }
     ensures { λ r. ⌜ Agrees 4097 4097 r (interval-b w v acc j1 a) ⌝ }
 {
+    // In the third order a is 0, and an interval is at least 1.
     let lo = larger(1, a);
     let by_acceleration = least_interval(j1, a, 0, acc, lo, CAP);
     let by_velocity = least_interval(j1, a, 1, v, lo, by_acceleration);

@@ -18,5 +18,5 @@ pub mod WidthLaws
 pub mod HalfCountLaw
 -- The profile of the paper.
 pub mod AnyOrder
-pub mod SizeLaws
+pub mod SumSizes
 pub mod Orders

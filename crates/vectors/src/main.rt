@@ -1,8 +1,9 @@
 // Answers each request of standard input. It holds no expectation: the stored answers are those of the reference, which was written from
 // the paper alone.
 //
-// A request is a line: a letter, numbers with one space before each, and byte 10. A number is decimal, and X may have a minus; or it is
-// `x` and hexadecimal digits in lower case. The machine's numbers m1 to c are the bits of floats. The requests and their answers:
+// A request is a line: a letter, in third order after a 3 and a space, numbers with one space before each, and byte 10. A number is decimal,
+// and X may have a minus; or it is `x` and hexadecimal digits in lower case. The machine's numbers m1 to c are the bits of floats. The
+// requests and their answers:
 //
 // p X V A J S: planned a b c e D shortfall
 // s X V A J S k: sample snap jerk acceleration velocity position count remainder

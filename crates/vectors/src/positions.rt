@@ -37,7 +37,7 @@ fn write_table(kind: u8, third: bool, requested: Move, table: &mut [i64], first:
 
 fn fill(kind: u8, third: bool, requested: Move, table: &mut [i64]) -> TableAnswer {
     if third {
-        return fill_third(kind, requested, table);
+        return fill_third_order(kind, requested, table);
     }
     if kind == b't' {
         return motion::fill_positions(requested, table);
@@ -45,7 +45,7 @@ fn fill(kind: u8, third: bool, requested: Move, table: &mut [i64]) -> TableAnswe
     motion::fill_reference(requested, table)
 }
 
-fn fill_third(kind: u8, requested: Move, table: &mut [i64]) -> TableAnswer {
+fn fill_third_order(kind: u8, requested: Move, table: &mut [i64]) -> TableAnswer {
     if kind == b't' {
         return motion::fill_positions_third(requested, table);
     }

@@ -70,7 +70,7 @@ fn samples(random: &mut Random) -> u64 {
     }
 }
 
-/// Intervals a, b, c and e of this many samples, or up to 7 less.
+/// Intervals a, b, c and e of this many samples, or up to 7 less (3 in third order).
 fn intervals(order: Order, samples: u64, random: &mut Random) -> [u64; 4] {
     let mut durations = [0; 4];
     let mut rest = samples;

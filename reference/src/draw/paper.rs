@@ -27,7 +27,7 @@ pub fn moves() -> [Move; 16] {
     })
 }
 
-/// A move that has all seven segments in third order, with every S: it is not read.
+/// A move that has all seven segments in third order, with S at each edge: it is not read.
 pub fn third() -> [Move; BOUND_EDGES.len()] {
     BOUND_EDGES.map(|(snap, _)| Move::new(42, [6 * G, 2 * G, G, snap]))
 }

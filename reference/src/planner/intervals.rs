@@ -26,7 +26,7 @@ impl Searches {
 }
 
 /// The intervals with the values that carry each rounding on to the next one. In
-/// third order a and its searches are 0.
+/// third order a and its searches are 0, and J1 is J.
 #[derive(Clone, Copy, Debug, PartialEq, Eq)]
 pub struct Intervals {
     pub a: u128,

@@ -3,7 +3,8 @@ use borrow.Author.Needs.{needs}
 use mathlib.Core.Path.{refl, subst}
 use Rattle.planner.specs.Outcome.{outcome}
 use Rattle.planner.specs.declared.PlanAnswer.{PlanAnswer}
-use Rattle.nitswolan.specs.Inner.{planSamples, SamplesFit}
+use Rattle.motion.specs.Inner.Planned.{samplesIn}
+use Rattle.nitswolan.specs.Inner.{SamplesFit}
 use Rattle.nitswolan.proofs.plan.plan_result.Statement.{statement}
 use Rattle.nitswolan.proofs.plan.plan_result.Tie as tie
 
@@ -12,7 +13,7 @@ enum-known-answer c = search needs
 
 samples-of-requires : tie.Need-samples-of-requires
 samples-of-requires c κs =
-    subst (λ (x : PlanAnswer). SamplesFit planSamples (outcome x)) (c .before .answer .given .1) (c .before .before .before .pre)
+    subst (λ (x : PlanAnswer). SamplesFit samplesIn (outcome x)) (c .before .answer .given .1) (c .before .before .before .pre)
 
 enum-known-answer-2 : tie.Need-enum-known-answer-2
 enum-known-answer-2 c = search needs

@@ -3,16 +3,17 @@ use borrow.Author.Needs.{needs}
 use mathlib.Core.Path.{refl, subst}
 use Rattle.planner.specs.Third.{thirdOutcome}
 use Rattle.planner.specs.declared.ThirdAnswer.{ThirdAnswer}
-use Rattle.nitswolan.specs.Inner.{thirdPlanSamples, SamplesFit}
+use Rattle.motion.specs.Inner.Planned.{thirdSamplesIn}
+use Rattle.nitswolan.specs.Inner.{SamplesFit}
 use Rattle.nitswolan.proofs.third.third_plan_result.Statement.{statement}
 use Rattle.nitswolan.proofs.third.third_plan_result.Tie as tie
 
 enum-known-answer : tie.Need-enum-known-answer
 enum-known-answer c = search needs
 
-samples-of-requires : tie.Need-samples-of-requires
-samples-of-requires c κs =
-    subst (λ (x : ThirdAnswer). SamplesFit thirdPlanSamples (thirdOutcome x)) (c .before .answer .given .1) (c .before .before .before .pre)
+third-samples-of-requires : tie.Need-third-samples-of-requires
+third-samples-of-requires c κs =
+    subst (λ (x : ThirdAnswer). SamplesFit thirdSamplesIn (thirdOutcome x)) (c .before .answer .given .1) (c .before .before .before .pre)
 
 enum-known-answer-2 : tie.Need-enum-known-answer-2
 enum-known-answer-2 c = search needs
@@ -21,7 +22,7 @@ refusal-number-requires : tie.Need-refusal-number-requires
 refusal-number-requires c κs = search needs
 
 returns : tie.Need-returns
-returns c = rw (c .before .before .answer .given .1, c .samples-of .ensures) refl
+returns c = rw (c .before .before .answer .given .1, c .third-samples-of .ensures) refl
 
 returns-2 : tie.Need-returns-2
 returns-2 c = rw (c .before .before .answer2 .given .1, c .refusal-number .ensures) refl
@@ -31,7 +32,7 @@ third-plan-result-spec =
     tie.close
     (tie.spec
     enum-known-answer
-    samples-of-requires
+    third-samples-of-requires
     enum-known-answer-2
     refusal-number-requires
     returns
