@@ -37,6 +37,7 @@ extern "C" {
 /* The most samples that a move may take, in either order, and the places of a table that is long enough for every move. */
 #define NITSWOLAN_MOST_SAMPLES 4096
 #define NITSWOLAN_MOST_POSITIONS (NITSWOLAN_MOST_SAMPLES + 1)
+#define NITSWOLAN_MOST_REFERENCE (NITSWOLAN_MOST_SAMPLES + 2)
 #define NITSWOLAN_MOST_FORCES (NITSWOLAN_MOST_SAMPLES + 2)
 
 /* The most axes of a set. */
@@ -56,7 +57,7 @@ enum {
   NITSWOLAN_JERK_RANGE = 5,
   NITSWOLAN_SNAP_RANGE = 6,       /* never given in third order */
   NITSWOLAN_TOO_MANY_SAMPLES = 7, /* N is above 4,096 */
-  NITSWOLAN_SHORT_TABLE = 8,      /* the table has fewer than N+1 places, or N+2 for forces */
+  NITSWOLAN_SHORT_TABLE = 8,      /* the table has fewer than N+1 places, or N+2 for reference rows and forces */
   NITSWOLAN_PAST_END = 9,         /* the sample asked for is above N */
   NITSWOLAN_MACHINE_RANGE = 10,   /* a number of the machine is not finite or out of its range */
   NITSWOLAN_SHEET_MALFORMED = 11, /* the sheet is malformed; `line` says where */
@@ -219,8 +220,12 @@ nitswolan_sample_result nitswolan_sample_move(nitswolan_move move, uint64_t samp
  * elements, not bytes; likewise below. Refusals 1 to 8. */
 nitswolan_table_result nitswolan_fill_positions(nitswolan_move move, int64_t *table, size_t places);
 
-/* Fills a table with the reference rows of a move at samples 0 to N, for the feedback loop: the positions in units, undelayed. Refusals 1
- * to 8. */
+/* Fills a table with the reference rows of a move, for the feedback loop: rows 0 to N+1, which need N+2 places. Row k is the position at
+ * sample k plus the position at k-1, where the position before sample 0 is 0, and after sample N it is still that at N. So row 0 is 0, row
+ * N+1 is twice the last position, and a row is at most 2^61 in size. Rows are in doubled units: half of row k is the mean of the two
+ * positions, at a steady speed the position half a sample before k. The measured position is late by as much, since it is sampled. At
+ * sample k compare row k with twice the measured position in units; or halve the row, which loses half a unit if it is odd. Refusals 1 to
+ * 8. */
 nitswolan_table_result nitswolan_fill_reference(nitswolan_move move, int64_t *table, size_t places);
 
 /* Fills a table with the feedforward forces of a move on a machine, rows 0 to N+1: row k belongs to sample k and is made of values up to
@@ -237,8 +242,8 @@ nitswolan_sample_result nitswolan_sample_third(nitswolan_move move, uint64_t sam
 /* Fills a table with the positions of a move in third order at samples 0 to N, in units. Refusals 1 to 5, 7 and 8. */
 nitswolan_table_result nitswolan_fill_positions_third(nitswolan_move move, int64_t *table, size_t places);
 
-/* Fills a table with the reference rows of a move in third order at samples 0 to N, for the feedback loop: the positions in units,
- * undelayed. Refusals 1 to 5, 7 and 8. */
+/* Fills a table with the reference rows of a move in third order, for the feedback loop: rows 0 to N+1 in doubled units, made of the
+ * third-order positions as nitswolan_fill_reference says. They need N+2 places. Refusals 1 to 5, 7 and 8. */
 nitswolan_table_result nitswolan_fill_reference_third(nitswolan_move move, int64_t *table, size_t places);
 
 /* Plans a set of axes. Refusals 1 to 7 and 13: 13 before all others, then 1 if every displacement is 0, both with place 0. Otherwise the

@@ -45,8 +45,12 @@ pub fn sample(order: Order) -> Table {
     joined([refusals([9]), moves(order), ends(), samples()])
 }
 
-pub fn table(order: Order) -> Table {
+pub fn positions(order: Order) -> Table {
     joined([refusals([8]), moves(order), places(1)])
+}
+
+pub fn reference(order: Order) -> Table {
+    joined([refusals([8]), moves(order), places(2), last_rows()])
 }
 
 pub fn force() -> Table {
@@ -187,6 +191,16 @@ fn places(more: i128) -> Table {
         }),
         accepted("just enough", |case| case.places() == case.field(1)),
         accepted("more places", |case| case.places() > case.field(1)),
+    ]
+}
+
+/// Reference rows that pass the span of positions; an end that is short of X, where
+/// twice the position that is held is not twice X.
+fn last_rows() -> Table {
+    let last = |case: &Case| case.outcome.rows.last().map_or(0, |row| *row as i64);
+    vec![
+        accepted("the longest way", |case| case.x().abs() == 1 << 20),
+        accepted("short of X", move |case| last(case) != case.x() << 41),
     ]
 }
 

@@ -41,16 +41,16 @@ pub const KINDS: [Kind; 12] = [
         calls: 2_000,
         stored: 120,
         fixed: Vec::new,
-        draw: |random| with_places(Order::Fourth, random, Request::Positions),
-        conditions: || conditions::table(Order::Fourth),
+        draw: |random| with_places(Order::Fourth, 1, random, Request::Positions),
+        conditions: || conditions::positions(Order::Fourth),
     },
     Kind {
         name: "reference",
         calls: 2_000,
         stored: 120,
         fixed: Vec::new,
-        draw: |random| with_places(Order::Fourth, random, Request::Reference),
-        conditions: || conditions::table(Order::Fourth),
+        draw: |random| with_places(Order::Fourth, 2, random, Request::Reference),
+        conditions: || conditions::reference(Order::Fourth),
     },
     Kind {
         name: "force",
@@ -120,16 +120,16 @@ pub const KINDS: [Kind; 12] = [
         calls: 2_000,
         stored: 40,
         fixed: || third(|motion| Request::Positions(Order::Third, motion, 13)),
-        draw: |random| with_places(Order::Third, random, Request::Positions),
-        conditions: || conditions::table(Order::Third),
+        draw: |random| with_places(Order::Third, 1, random, Request::Positions),
+        conditions: || conditions::positions(Order::Third),
     },
     Kind {
         name: "third_reference",
         calls: 2_000,
         stored: 40,
-        fixed: || third(|motion| Request::Reference(Order::Third, motion, 13)),
-        draw: |random| with_places(Order::Third, random, Request::Reference),
-        conditions: || conditions::table(Order::Third),
+        fixed: || third(|motion| Request::Reference(Order::Third, motion, 14)),
+        draw: |random| with_places(Order::Third, 2, random, Request::Reference),
+        conditions: || conditions::reference(Order::Third),
     },
 ];
 
@@ -144,14 +144,15 @@ fn sampled(order: Order, random: &mut Random) -> Request {
     Request::Sample(order, motion, k)
 }
 
-/// A request for a table of N+1 rows of any move.
+/// A request for a table of N and `more` rows of any move.
 fn with_places(
     order: Order,
+    more: u64,
     random: &mut Random,
     request: impl FnOnce(Order, Move, u64) -> Request,
 ) -> Request {
     let motion = moves::any(order, random);
-    let places = samples::places(order, &motion, 1, random);
+    let places = samples::places(order, &motion, more, random);
     request(order, motion, places)
 }
 

@@ -129,7 +129,7 @@ fn the_example_of_each_refusal() {
     assert_eq!(refusal(8, [G, G, G, 0]), 6);
     assert_eq!(refusal(1, [1; 4]), 7);
     assert_eq!(position_table(Fourth, &first(), &mut [0; 8]), Refused(8));
-    assert_eq!(reference_table(Fourth, &first(), &mut [0; 8]), Refused(8));
+    assert_eq!(reference_table(Fourth, &first(), &mut [0; 9]), Refused(8));
     let force = |c, table: &mut [f64]| force_table(&first(), &machine(0.0, c), table);
     let mut table = [7.0; 9];
     assert_eq!(force(1.0, &mut table), Refused(8));

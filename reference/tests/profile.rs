@@ -163,26 +163,68 @@ fn demand_3_in_a_set() {
     }
 }
 
+/// The rows of a table, which never turn back; it keeps every place beyond them, and all
+/// of its places if there is one too few.
+fn assert_table(fill: Fill, order: Order, motion: &Move, rows: &[i64]) {
+    let expected = [rows, &[-7; 3]].concat();
+    for places in [rows.len(), rows.len() + 3] {
+        let mut table = vec![-7; places];
+        let answer = fill(order, motion, &mut table);
+        assert_eq!(answer, TableAnswer::Written(rows.len() as u64));
+        assert_eq!(table, expected[..places]);
+        let ahead = |pair: &[i64]| (pair[1] - pair[0]) * motion.displacement.signum() >= 0;
+        assert!(table[..rows.len()].windows(2).all(ahead));
+    }
+    let mut short = vec![-7; rows.len() - 1];
+    assert_eq!(fill(order, motion, &mut short), TableAnswer::Refused(8));
+    assert_eq!(short, vec![-7; rows.len() - 1]);
+}
+
 #[test]
-fn tables_hold_the_positions_and_keep_every_place_beyond() {
+fn tables_of_positions_and_of_reference_rows() {
     for (order, motion) in moves_in_orders() {
         let samples = samples(order, &motion);
-        let mut expected: Vec<i64> = samples.iter().map(|at| at.position).collect();
-        let rows = expected.len();
-        expected.extend([-7; 3]);
-        for fill in TABLES {
-            for places in [rows, rows + 3] {
-                let mut table = vec![-7; places];
-                let answer = fill(order, &motion, &mut table);
-                assert_eq!(answer, TableAnswer::Written(rows as u64));
-                assert_eq!(table, expected[..places]);
-            }
-        }
+        let positions: Vec<i64> = samples.iter().map(|at| at.position).collect();
+        assert_table(position_table, order, &motion, &positions);
+        // Document 02, request 4: before sample 0 it is 0, after N the last is held.
+        let here = positions.iter().chain(positions.last());
+        let before = [0].iter().chain(&positions);
+        let rows: Vec<i64> = here.zip(before).map(|(x, y)| x + y).collect();
+        assert_table(reference_table, order, &motion, &rows);
     }
+}
+
+/// In both directions, from positions that `paper.rs` and `third.rs` have, or that the
+/// plans there lead to; they are in counts, in halves of a count or in what is switched.
+#[test]
+fn reference_rows_worked_by_hand() {
+    let worked = |order, x: i64, bounds, unit: i64, rows: &[i64]| {
+        for direction in [1, -1] {
+            let motion = Move::new(x * direction, bounds);
+            let rows: Vec<i64> = rows.iter().map(|row| row * unit * direction).collect();
+            assert_table(reference_table, order, &motion, &rows);
+        }
+    };
+    // 0 0 0 0 1 3 5 7 8.
+    let rows = [0, 0, 0, 0, 1, 4, 8, 12, 15, 16];
+    worked(Fourth, 8, [2 * G, G, G, G], 1099511627776, &rows);
+    // 0 0 0 0 1 3 5 7 9 11 13 15 16.
+    let rows = [0, 0, 0, 0, 1, 4, 8, 12, 16, 20, 24, 28, 31, 32];
+    worked(Fourth, 8, [G; 4], 549755813888, &rows);
+    // 0 0 0 0 1 3 5 7 9 10: the end is 6 units short, and the last row 12.
+    let rows = [0, 0, 0, 0, 1, 4, 8, 12, 16, 19, 20];
+    worked(Fourth, 1, [219902325556, G, G, G], 109951162777, &rows);
+    // 0 0 0 1 4 9 15 21 27 33 38 41 42.
+    let rows = [0, 0, 0, 1, 5, 13, 24, 36, 48, 60, 71, 79, 83, 84];
+    worked(Third, 42, [6 * G, 2 * G, G, 0], 1099511627776, &rows);
+    // 0 0 0 1 2 3 4 5: the end is 1 unit short, and the last row 2.
+    let rows = [0, 0, 0, 1, 3, 5, 7, 9, 10];
+    worked(Third, 1, [219902325556, G, G, 0], 219902325555, &rows);
 }
 
 #[test]
 fn a_refused_table_is_kept() {
+    // The places are for positions; with one more the reference rows lack one too.
     let rows = [
         (Fourth, 4092, 4096, 8),
         (Fourth, 0, 5000, 1),
@@ -191,11 +233,11 @@ fn a_refused_table_is_kept() {
         (Third, 4095, 5000, 7),
     ];
     for (order, x, places, number) in rows {
-        for fill in TABLES {
-            let mut table = vec![-7; places];
+        for (more, fill) in TABLES.into_iter().enumerate() {
+            let mut table = vec![-7; places + more];
             let answer = fill(order, &Move::new(x, [G; 4]), &mut table);
             assert_eq!(answer, TableAnswer::Refused(number));
-            assert_eq!(table, vec![-7; places]);
+            assert_eq!(table, vec![-7; places + more]);
         }
     }
 }

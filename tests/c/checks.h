@@ -31,4 +31,7 @@ void check_sheets(checks *tally);
 /* Empty tables and texts may be NULL. */
 void check_empty(checks *tally);
 
+/* The longest moves and the farthest. */
+void check_longest(checks *tally);
+
 #endif

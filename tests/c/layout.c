@@ -9,6 +9,7 @@ int main(void) {
   check_axes(&tally);
   check_sheets(&tally);
   check_empty(&tally);
+  check_longest(&tally);
   if (tally.failed > 0) {
     printf("layout: %u of %u checks failed\n", tally.failed, tally.failed + tally.passed);
     return 1;

@@ -68,13 +68,40 @@ static void check_table(checks *tally, const char *what, raw_table_result answer
   check(tally, what, answer.words[TABLE_ROWS / 8], rows);
 }
 
-/* The tables of the first move, which takes so many samples: one place more is enough. */
-static void check_tables(checks *tally, const order *of, uint64_t samples) {
-  int64_t table[9];
-  check_table(tally, "positions", of->fill_positions(first_move(), table, samples + 1), 0, samples + 1);
-  check_table(tally, "reference", of->fill_reference(first_move(), table, samples + 1), 0, samples + 1);
-  check_table(tally, "positions, too few", of->fill_positions(first_move(), table, samples), 8, 0);
-  check_table(tally, "reference, too few", of->fill_reference(first_move(), table, samples), 8, 0);
+/* Lends so many places of a table for the first move, forward or backward. The rows that are wanted, in counts, must stand from place 0 on,
+ * and every other place, lent or not, must be as it was. */
+static void check_lent(checks *tally, const char *what, fill_table fill, int way, size_t places, const int *counts, uint64_t rows) {
+  int64_t table[12];
+  raw_move move = first_move();
+  if (way < 0) {
+    move.words[MOVE_DISPLACEMENT / 8] = -move.words[MOVE_DISPLACEMENT / 8];
+  }
+  memset(table, 0x55, sizeof table);
+  check_table(tally, what, fill(move, table, places), rows == 0 ? 8 : 0, rows);
+  for (uint64_t k = 0; k < sizeof table / sizeof *table; k++) {
+    check(tally, what, (uint64_t)table[k], k < rows ? (uint64_t)(way * counts[k] * (int64_t)G) : UINT64_C(0x5555555555555555));
+  }
+}
+
+/* As many places as rows are enough, and one fewer is refused. */
+static void check_rows(checks *tally, const char *what, fill_table fill, const int *counts, uint64_t rows) {
+  for (int way = -1; way <= 1; way += 2) {
+    check_lent(tally, what, fill, way, rows - 1, counts, 0);
+    check_lent(tally, what, fill, way, rows, counts, rows);
+    check_lent(tally, what, fill, way, rows + 1, counts, rows);
+  }
+}
+
+/* The tables of the first move in counts. A reference row is the position plus the one before, and the last position is held once more. */
+static void check_tables(checks *tally) {
+  static const int positions[] = {0, 0, 0, 0, 1, 3, 5, 7, 8};
+  static const int reference[] = {0, 0, 0, 0, 1, 4, 8, 12, 15, 16};
+  static const int third_positions[] = {0, 0, 0, 1, 3, 5, 7, 8};
+  static const int third_reference[] = {0, 0, 0, 1, 4, 8, 12, 15, 16};
+  check_rows(tally, "positions", nitswolan_fill_positions, positions, 9);
+  check_rows(tally, "reference rows", nitswolan_fill_reference, reference, 10);
+  check_rows(tally, "third-order positions", nitswolan_fill_positions_third, third_positions, 8);
+  check_rows(tally, "third-order reference rows", nitswolan_fill_reference_third, third_reference, 9);
 }
 
 static void check_forces(checks *tally) {
@@ -90,7 +117,6 @@ void check_answers(checks *tally) {
   check_third_plan(tally, &both);
   check_samples(tally, &both, &fourth, sixth_move(), sixth_plan().snap, sixth_signs, 18);
   check_samples(tally, &both, &third, third_move(0), third_jerk, third_signs, 17);
-  check_tables(tally, &fourth, 8);
-  check_tables(tally, &third, 7);
+  check_tables(tally);
   check_forces(tally);
 }

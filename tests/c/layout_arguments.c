@@ -17,13 +17,13 @@ static raw_machine machine_of(double m1, double m2, double k1, double k2, double
 static void check_order(checks *tally, const char *what, const order *of, raw_move move, uint64_t refusal) {
   uint64_t plan[PLAN_RESULT_SIZE / 8];
   uint64_t sample[SAMPLE_RESULT_SIZE / 8];
-  int64_t positions[9];
+  int64_t table[10];
   of->plan(plan, move);
   of->sample(sample, move, 7);
   check(tally, what, plan[PLAN_RESULT_REFUSAL / 8], refusal);
   check(tally, what, sample[SAMPLE_RESULT_REFUSAL / 8], refusal);
-  check(tally, what, of->fill_positions(move, positions, 9).words[TABLE_REFUSAL / 8], refusal);
-  check(tally, what, of->fill_reference(move, positions, 9).words[TABLE_REFUSAL / 8], refusal);
+  check(tally, what, of->fill_positions(move, table, 9).words[TABLE_REFUSAL / 8], refusal);
+  check(tally, what, of->fill_reference(move, table, 10).words[TABLE_REFUSAL / 8], refusal);
 }
 
 /* The refusal of each entry that takes a move. The third order does not read the snap, for which alone 6 is given. */

@@ -43,12 +43,15 @@ void *nitswolan_sample_axes(void *answer, raw_axes axes, uint64_t sample);
 void *nitswolan_read_sheet(void *answer, const uint8_t *text, size_t length);
 size_t nitswolan_report(const uint8_t *text, size_t length, uint8_t *report);
 
+/* A function that fills a table of whole numbers. */
+typedef raw_table_result (*fill_table)(raw_move move, int64_t *table, size_t places);
+
 /* The functions that the fourth order and the third have alike. */
 typedef struct {
   void *(*plan)(void *answer, raw_move move);
   void *(*sample)(void *answer, raw_move move, uint64_t sample);
-  raw_table_result (*fill_positions)(raw_move move, int64_t *table, size_t places);
-  raw_table_result (*fill_reference)(raw_move move, int64_t *table, size_t places);
+  fill_table fill_positions;
+  fill_table fill_reference;
 } order;
 
 static const order fourth = {nitswolan_plan_move, nitswolan_sample_move, nitswolan_fill_positions, nitswolan_fill_reference};

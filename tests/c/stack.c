@@ -20,7 +20,7 @@ typedef struct {
   const char *text;
   const unsigned char *frame;
   uint64_t answer[SHEET_SIZE / 8];
-  int64_t positions[4097];
+  int64_t table[4098];
   double forces[4098];
   uint8_t report[REPORT_SIZE];
 } work;
@@ -35,13 +35,13 @@ static void *call(void *given) {
   switch (todo->entry) {
   case 0: return nitswolan_plan_move(todo->answer, move);
   case 1: return nitswolan_sample_move(todo->answer, move, 4096);
-  case 2: todo->answer[0] = nitswolan_fill_positions(move, todo->positions, 4097).words[0]; break;
-  case 3: todo->answer[0] = nitswolan_fill_reference(move, todo->positions, 4097).words[0]; break;
+  case 2: todo->answer[0] = nitswolan_fill_positions(move, todo->table, 4097).words[0]; break;
+  case 3: todo->answer[0] = nitswolan_fill_reference(move, todo->table, 4098).words[0]; break;
   case 4: todo->answer[0] = nitswolan_fill_force(move, machine, todo->forces, 4098).words[0]; break;
   case 5: return nitswolan_plan_third(todo->answer, longer);
   case 6: return nitswolan_sample_third(todo->answer, longer, 4096);
-  case 7: todo->answer[0] = nitswolan_fill_positions_third(longer, todo->positions, 4097).words[0]; break;
-  case 8: todo->answer[0] = nitswolan_fill_reference_third(longer, todo->positions, 4097).words[0]; break;
+  case 7: todo->answer[0] = nitswolan_fill_positions_third(longer, todo->table, 4097).words[0]; break;
+  case 8: todo->answer[0] = nitswolan_fill_reference_third(longer, todo->table, 4098).words[0]; break;
   case 9: return nitswolan_plan_axes(todo->answer, *todo->axes);
   case 10: return nitswolan_sample_axes(todo->answer, *todo->axes, 4096);
   case 11: return nitswolan_read_sheet(todo->answer, text, strlen(todo->text));
@@ -67,13 +67,14 @@ static size_t stack_of(work *todo, unsigned char *stack) {
   return (size_t)(todo->frame - (stack + untouched));
 }
 
-/* The most that the entries from `first` up to `end` take, or the whole stack if one could not be measured. */
+/* The most that the entries from `first` up to `end` take, or the whole stack if one could not be measured. Those for a move answer with
+ * their refusal first and must not refuse: less stack would be measured than a full table takes. */
 static size_t most_of(work *todo, unsigned char *stack, int first, int end) {
   size_t most = 0;
   for (todo->entry = first; todo->entry < end; todo->entry++) {
     call(todo); /* so that no name is bound late, on the measured stack */
     const size_t taken = stack_of(todo, stack);
-    if (taken == 0) {
+    if (taken == 0 || (first == OF_A_MOVE && todo->answer[0] != 0)) {
       return STACK;
     }
     most = taken > most ? taken : most;

@@ -8,7 +8,9 @@ use borrow.Author.Tests.{le-ltb}
 use lib.IntN.{ℤ, pos}
 use lib.ListN.{length}
 use Rattle.planner.specs.Result.{Each, Result, given}
-use Rattle.planner.specs.Outcome.{distanceOf, samplesOf}
+use Rattle.planner.specs.Intervals.{P}
+use Rattle.planner.specs.Outcome.{distanceOf, intervalsOf, samplesOf}
+use Rattle.planner.specs.Claims.{Accepted}
 use Rattle.planner.specs.Third.{P₃, thirdIntervalsOf, thirdSamplesOf}
 use Rattle.planner.specs.ThirdClaims.{ThirdAccepted}
 use Rattle.planner.specs.declared.Move.{Move}
@@ -58,16 +60,21 @@ module _ (x : Motion) (p : Each Passes (x .planChecks)) where
         kept = lines;
       }
 
+-- the rule's own values keep the lines
+pub fourth-kept :
+    (m : Move) → Accepted m → Kept m (samplesOf m) (P (intervalsOf m)) (exactPositionTimesP m) (λ k. withRounding (valuesOf m k))
+unfolding samplesOf valuesOf exactPositionTimesP
+fourth-kept m h = kept (keeps (rule-facts m h))
+
 pub demand-3 : Demand3Claim
-unfolding samplesOf valuesOf exactPositionTimesP shared
+unfolding samplesOf valuesOf shared
 demand-3 m h sample promised old new rows room filled =
-    let f = rule-facts m h in
     record {
-      shared = shared (fourthOrder m) (accepted-passes m h) (kept (keeps f)) sample promised old new rows room filled;
-      kept-snap = kept-snap (m .displacement) _ _ (f .bounds .snap);
+      shared = shared (fourthOrder m) (accepted-passes m h) (fourth-kept m h) sample promised old new rows room filled;
+      kept-snap = kept-snap (m .displacement) _ _ (rule-facts m h .bounds .snap);
     }
 
-third-kept :
+pub third-kept :
     (m : Move) → ThirdAccepted m
     → Kept m (thirdSamplesOf m) (P₃ (thirdIntervalsOf m)) (thirdExactPositionTimesP m) (λ k. withRounding (thirdValuesOf m k))
 unfolding thirdSamplesOf thirdValuesOf thirdExactPositionTimesP span product

@@ -50,7 +50,7 @@ module _ {X : ℤ} {a : ℕ} {inner : List ℕ} {c e D : ℕ} {f : ℕ → ℤ} 
     velocity-below = rw (size-is 2 k) (size.velocity-most a D (h .one) inner c e top (h .spread) speed k)
 
   module _ (reach : D * product a (e ∷ c ∷ inner) ≤ 2 ^ 60) where
-    position-below : (k : ℕ) → natAbs (sum (sum (sum f)) k) ≤ 2 ^ 60
+    pub position-below : (k : ℕ) → natAbs (sum (sum (sum f)) k) ≤ 2 ^ 60
     unfolding sums
     position-below k = rw (size-is 3 k) (size.position-most a D (h .one) inner c e (2 ^ 60) (h .spread) reach k)
 

@@ -151,6 +151,8 @@ module _ {x : Motion} {n : ℕ} {v : ℕ → Values} (f : PlannedAs x n v) {old 
   unfolding FillsPositions
   fills-positions = fills (f .pass) (ap (λ (n : ℕ). n + 1) (f .samples-are)) (λ k. ap (λ (v : Values). v .position) (f .values-are k))
 
-  pub fills-reference : WritesRows [] (n + 1) (λ k. v k .position) old o new → FillsReference x old o new
-  unfolding FillsReference referenceRow
-  fills-reference = fills (f .pass) (ap (λ (n : ℕ). n + 1) (f .samples-are)) (λ k. ap (λ (v : Values). v .position) (f .values-are k))
+  pub fills-reference : WritesRows [] (n + 2) (referenceRow n v) old o new → FillsReference x old o new
+  unfolding FillsReference
+  fills-reference =
+      fills (f .pass) (ap (λ (n : ℕ). n + 2) (f .samples-are))
+      (λ k. ap₂ (λ (n : ℕ) (v : ℕ → Values). referenceRow n v k) (f .samples-are) (fun-ext (f .values-are)))

@@ -54,10 +54,16 @@ not-below-zero n = record { le = le→leb 0 n zero-le }
 pub pos-below : (m n : ℕ) → m < n → pos m <ℤ pos n
 pos-below m n h = record { lt = lt→ltb m n h }
 
--- what is at most 2^60 in size fits an i64
+-- what is at most 2^61 in size fits an i64, and so does what is at most 2^60
+pub wide-fits : (x : ℤ) → natAbs x ≤ 2 ^ 61 → SFits w64 x
+wide-fits (pos n) h = record { sfits = omega arith }
+wide-fits (negsuc n) h = record { sfits = omega arith }
+
 pub small-fits : (x : ℤ) → natAbs x ≤ 2 ^ 60 → SFits w64 x
-small-fits (pos n) h = record { sfits = omega arith }
-small-fits (negsuc n) h = record { sfits = omega arith }
+small-fits x h = wide-fits x (omega arith)
+
+pub small-sum-fits : (x y : ℤ) → natAbs x ≤ 2 ^ 60 → natAbs y ≤ 2 ^ 60 → SFits w64 (x +ℤ y)
+small-sum-fits x y h k = wide-fits (x +ℤ y) (omega (arith, size-sum x y))
 
 pub sum-fits : (x y : ℤ) → natAbs x ≤ 2 ^ 59 → natAbs y ≤ 2 ^ 59 → SFits w64 (x +ℤ y)
 sum-fits x y h k = small-fits (x +ℤ y) (omega (arith, size-sum x y))

@@ -22,6 +22,12 @@ pub mod DirectedValue
 pub mod ThirdStates
 pub mod JerkRuns
 pub mod PositionLaws
+-- Reference rows: pairs of values, and their runs.
+pub mod PairLaws
+pub mod PairRuns
+pub mod OrderRunLaws
+pub mod PairSizes
+pub mod ReferenceLaws
 -- The rows of a force table, and what they are exactly.
 pub mod ForceRows
 -- From a plan to what the entries promise.
@@ -41,6 +47,8 @@ pub mod HalfCountRule
 pub mod EndRule
 pub mod KeptLaws
 pub mod Demand3
+pub mod GrowthLaws
+pub mod ReferenceTheorems
 pub mod RestAxis
 pub mod Demand3Axes
 pub mod AxesTheorems

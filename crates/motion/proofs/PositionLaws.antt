@@ -24,10 +24,10 @@ use Rattle.motion.proofs.ThirdStates.{directedJerk, third-values, third
 use Rattle.motion.proofs.RowLaws.{Carries}
 use Rattle.motion.proofs.TableLaws.{run, can-run, rows-in}
 
-carried : (f : ℕ → ℤ) → Carries positionWriter f (stateAt f)
+pub carried : (f : ℕ → ℤ) → Carries positionWriter f (stateAt f)
 carried f = record { next = λ k. next f k ∙ ap (stateAt f) (add-one k); place-is = λ k. refl }
 
-third-carried : (f : ℕ → ℤ) → Carries thirdWriter f (sumsAt f)
+pub third-carried : (f : ℕ → ℤ) → Carries thirdWriter f (sumsAt f)
 third-carried f = record { next = λ k. third-next f k ∙ ap (sumsAt f) (add-one k); place-is = λ k. refl }
 
 module _ (X : ℤ) (t : Intervals) (D : ℕ) (h : WithinRange t D) where

@@ -1,21 +1,28 @@
--- What demand 3 assumes can be met: the rules' own answers meet the promises of the entries, for every move and every table.
+-- What demand 3 and the claim on reference rows assume can be met: the rules' own answers meet the promises of the entries, for every move
+-- and every table.
 use mathlib.Core.List.{List, []}
-use mathlib.Core.Path.{refl, sym}
+use mathlib.Core.Path.{refl, sym, subst}
 use Prim.Native.Nat.{ℕ, _+_, _≤_}
 use native.Mathlib.Nat.{le-of-eq}
 use lib.IntN.{ℤ, pos}
 use lib.ListN.{length, replicate, length-replicate}
-use Rattle.planner.specs.Result.{Result, Check}
+use Rattle.planner.specs.Result.{Each, Result, Check}
 use Rattle.planner.specs.Claims.{Accepted, mirrored}
 use Rattle.planner.specs.ThirdClaims.{ThirdAccepted}
 use Rattle.planner.specs.declared.Move.{Move}
+use Rattle.planner.proofs.RefusalLaws.{Passes}
+use Rattle.planner.proofs.Acceptance.{accepted-passes, third-passes}
 use Rattle.planner.proofs.Mirror.{mirror, third-mirror}
 use Rattle.planner.proofs.StarredMoves.{firstStarred, first-accepted, first-third-accepted}
 use Rattle.motion.specs.Sampling.{Motion, fourthOrder, thirdOrder}
-use Rattle.motion.specs.Tables.{rowsFrom, tableOf, tableResult, Fills, FillsPositions}
+use Rattle.motion.specs.Tables.{rowsFrom, tableOf, tableResult, referenceRow, Fills, FillsPositions, FillsReference}
 use Rattle.motion.specs.Demand3.{Demand3, ThirdDemand3}
+use Rattle.motion.specs.ReferenceClaims.{ReferenceRows, ReferenceOf}
+use Rattle.motion.proofs.RoundedValues.{withRounding}
+use Rattle.motion.proofs.FillLaws.{filled-outcome}
 use Rattle.motion.proofs.SamplingLaws.{ruleSample, rule-samples}
-use Rattle.motion.proofs.Demand3.{demand-3, third-demand-3}
+use Rattle.motion.proofs.Demand3.{sampled, demand-3, third-demand-3}
+use Rattle.motion.proofs.ReferenceTheorems.{reference-rows}
 
 -- the outcome and the table of the rule itself, for any rule of rows
 module _ {A : Type 0} (x : Motion) (own : List (Check ℕ)) (rows : ℕ) (row : ℕ → A) (old : List A) where
@@ -58,6 +65,34 @@ rule-third-demand-3 m h =
     let x = thirdOrder m in
     third-demand-3 m h (ruleSample x) (λ k l. rule-samples x k refl) (zeros x) (positions x) _ (room x) (positions-fill x)
 
+-- the reference rows of the rule itself, for a move that the planner does not refuse
+module _ (x : Motion) where
+  abbrev referenceCount : ℕ
+  referenceCount = x .samples + 2
+
+  abbrev blanks : List ℤ
+  blanks = replicate referenceCount (pos 0)
+
+  abbrev pub references : List ℤ
+  references = ruleTable x [] referenceCount (referenceRow (x .samples) (x .values)) blanks
+
+  abbrev pub RuleReference : (X : ℤ) → Type 0
+  RuleReference X = ReferenceRows X (x .samples) (λ k. withRounding (x .values k)) references
+
+  rule-reference : (m : Move) → ReferenceOf m x → Each Passes (x .planChecks) → RuleReference (m .displacement)
+  unfolding FillsReference
+  rule-reference m claim p =
+      let fill = rule-fills x [] referenceCount (referenceRow (x .samples) (x .values)) blanks in
+      let whole = filled-outcome p (le-of-eq (sym (length-replicate referenceCount (pos 0)))) tt fill in
+      claim _ (λ k l. rule-samples x k (sym (sampled x p l (rule-samples x k refl)))) blanks references referenceCount
+      (subst (λ o. Fills x [] referenceCount (referenceRow (x .samples) (x .values)) blanks o references) whole fill)
+
+pub rule-reference-rows : (m : Move) → Accepted m → RuleReference (fourthOrder m) (m .displacement)
+rule-reference-rows m h = rule-reference (fourthOrder m) m (reference-rows m .fourth) (accepted-passes m h)
+
+pub rule-third-reference-rows : (m : Move) → ThirdAccepted m → RuleReference (thirdOrder m) (m .displacement)
+rule-third-reference-rows m h = rule-reference (thirdOrder m) m (reference-rows m .third) (third-passes m h)
+
 -- closed instances, forward and backward: the first of document 01's moves, and its mirror
 abbrev back : Move
 back = mirrored firstStarred
@@ -74,3 +109,15 @@ third-demand-3-forward = rule-third-demand-3 firstStarred first-third-accepted
 
 pub third-demand-3-backward : ThirdDemand3 back (ruleSample (thirdOrder back)) (positions (thirdOrder back))
 third-demand-3-backward = rule-third-demand-3 back (third-mirror firstStarred .0 first-third-accepted)
+
+pub reference-rows-forward : RuleReference (fourthOrder firstStarred) (firstStarred .displacement)
+reference-rows-forward = rule-reference-rows firstStarred first-accepted
+
+pub reference-rows-backward : RuleReference (fourthOrder back) (back .displacement)
+reference-rows-backward = rule-reference-rows back (mirror firstStarred .0 first-accepted)
+
+pub third-reference-rows-forward : RuleReference (thirdOrder firstStarred) (firstStarred .displacement)
+third-reference-rows-forward = rule-third-reference-rows firstStarred first-third-accepted
+
+pub third-reference-rows-backward : RuleReference (thirdOrder back) (back .displacement)
+third-reference-rows-backward = rule-third-reference-rows back (third-mirror firstStarred .0 first-third-accepted)

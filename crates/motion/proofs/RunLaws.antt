@@ -66,6 +66,11 @@ module _ {S A : Type 0} {w : Writer S A} where
     none-of zero x l h = none-left h
     none-of (suc n) x l h = absurd (not-suc-le-zero l)
 
+-- a run of no steps
+pub no-run : {S A : Type 0} {w : Writer S A} (n : ℕ) (x : ℤ) {s : S} {table : List A} → n ≡ 0 → Ran w (replicate n x) s table table s
+unfolding after stored
+no-run n x none = rw none (record { table-is = refl; end-is = refl })
+
 module _ {S A : Type 0} (w : Writer S A) where
   length-stored : (xs : List ℤ) (s : S) (table : List A) → length (stored w xs s table) ≡ length table
   unfolding stored

@@ -62,7 +62,7 @@ pub record SegmentsLeft
 
 -- the levels are those of the plan
 module _ {X : ℤ} {D : ℕ} {xs ys : List profile.Segment} {levels : Levels} (same : xs ≡ ys) (sizes : AreLevels X D levels) where
-  whole-run : listFrom xs levels 0 ≡ directedList X D ys
+  pub whole-run : listFrom xs levels 0 ≡ directedList X D ys
   whole-run = rw (sizes .positive-is, sizes .negative-is, same) refl
 
   module _ {S A : Type 0} {w : Writer S A} where

@@ -56,7 +56,7 @@ module _ (X : ℤ) (t : Intervals) (D : ℕ) (h : WithinRange t D) where
   abbrev snap : ℕ → ℤ
   snap = directedSnap X t D
 
-  over : DirectedOver X (t .a) (t .b ∷ []) (t .c) (t .e) D (sum snap)
+  pub over : DirectedOver X (t .a) (t .b ∷ []) (t .c) (t .e) D (sum snap)
   over = record { one = h .ordered .one-a; spread = spread (h .ordered); is = directed-jerk X t D }
 
   -- up to the velocity each is at most what bounds it: the values that a row of force doubles
@@ -80,7 +80,7 @@ module _ (X : ℤ) (t : Intervals) (D : ℕ) (h : WithinRange t D) where
     unfolding product sums
     velocity-below = sizes.velocity-below over top speed k
 
-  reach-speed : D * (t .a * t .b * t .c) ≤ 2 ^ 60
+  pub reach-speed : D * (t .a * t .b * t .c) ≤ 2 ^ 60
   unfolding product
   reach-speed = sizes.reach-speed over (h .reach)
 

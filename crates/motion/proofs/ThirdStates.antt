@@ -39,7 +39,7 @@ module _ (X : ℤ) (t : ThirdIntervals) (D : ℕ) where
   directed-jerk = fun-ext (λ k. ap (λ (f : ℕ → ℤ). along X (f k)) (third-jerk t D))
 
   module _ (h : ThirdWithinRange t D) where
-    over : DirectedOver X (t .b) [] (t .c) (t .e) D directedJerk
+    pub over : DirectedOver X (t .b) [] (t .c) (t .e) D directedJerk
     over = record { one = h .ordered .one-b; spread = third-spread (h .ordered); is = directed-jerk }
 
     pub third-step-fits : (k : ℕ) → k ≤ 2 ^ 60 → StepFits (thirdStateAt directedJerk k) (pos 0)

@@ -72,7 +72,7 @@ TableRefusals {A} Promise Reason = (old new : List A) (o : Result ℕ ℕ) → P
 pub record AcceptedRefusals (x : Motion) : Type 0 where
   pub sample : (k : ℕ) (o : Result ℕ Sample) → Samples x k o → RefusedBy o (Only 9 (x .samples < k))
   pub positions : TableRefusals (FillsPositions x) (TableReason (x .samples + 1))
-  pub reference : TableRefusals (FillsReference x) (TableReason (x .samples + 1))
+  pub reference : TableRefusals (FillsReference x) (TableReason (x .samples + 2))
 
 pub record AcceptedRefusalsClaim : Type 0 where
   pub fourth : (m : Move) → Accepted m → AcceptedRefusals (fourthOrder m)

@@ -7,4 +7,5 @@ pub mod Planned
 pub mod PlannedAxes
 pub mod Runs
 pub mod SegmentLists
+pub mod Pairs
 pub mod Rows

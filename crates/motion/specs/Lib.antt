@@ -7,5 +7,6 @@ pub mod Answer
 pub mod Axes
 pub mod Claims
 pub mod Demand3
+pub mod ReferenceClaims
 pub mod AxesClaims
 pub mod Inner

@@ -1,18 +1,18 @@
--- Document 01, "The profile" and "Force rows": the tables of positions, of reference rows and of force rows.
+-- Document 01, "The profile" and "Force rows", and document 02, 4: the tables of positions, of reference rows and of force rows.
 use mathlib.Core.Bool.{not}
 use mathlib.Core.List.{List, [], _∷_, _++_}
 use mathlib.Core.Path.{_≡_}
-use Prim.Native.Nat.{ℕ, zero, suc, _+_}
+use Prim.Native.Nat.{ℕ, zero, suc, _+_, min}
 use lib.Dec.{ltb}
-use lib.IntN.{ℤ}
+use lib.IntN.{ℤ, _+ℤ_}
 use lib.Ieee.{Float}
 use lib.ListN.{length, drop}
 use Rattle.planner.specs.Result.{Result, refused, given, Check, check, firstRefusal}
 use Rattle.planner.specs.Outcome.{samplesOf}
 use Rattle.planner.specs.declared.Move.{Move}
-use Rattle.motion.specs.Sampling.{valuesOf, Motion, fourthOrder}
+use Rattle.motion.specs.Sampling.{Values, valuesOf, Motion, fourthOrder}
 use Rattle.motion.specs.ForceRows.Machine.{Machine, machineAsRead, machineInRange}
-use Rattle.motion.specs.ForceRows.Doubled.{Doubled, doubledValues}
+use Rattle.motion.specs.ForceRows.Doubled.{Doubled, earlier, doubledValues}
 use Rattle.motion.specs.ForceRows.Force.{forceRow}
 
 -- The rows from k on, n of them.
@@ -24,6 +24,14 @@ rowsFrom row k (suc n) = row k ∷ rowsFrom row (suc k) n
 unfoldable pub tableOf : {A : Type 0} → Result ℕ ℕ → (rows old : List A) → List A
 tableOf (refused number) rows old = old
 tableOf (given n) rows old = rows ++ drop (length rows) old
+
+-- "Position before 0 is 0 and after N is its final value": a position is held outside 0 to N. Before 0 it is what `earlier` gives.
+unfoldable pub heldPosition : (N : ℕ) (values : ℕ → Values) → ℕ → ℤ
+heldPosition N values k = values (min k N) .position
+
+-- "a reference row holds position[k] plus position[k−1], doubled units".
+unfoldable pub referenceRow : (N : ℕ) (values : ℕ → Values) → ℕ → ℤ
+referenceRow N values k = heldPosition N values k +ℤ earlier (heldPosition N values) 1 k
 
 -- Refusal 10: "a machine number outside its range or not finite".
 abbrev pub machineCheck : Machine Float → Check ℕ
@@ -47,13 +55,9 @@ module _ (x : Motion) where
   unfoldable pub FillsPositions : (old : List ℤ) (o : Result ℕ ℕ) (new : List ℤ) → Type 0
   FillsPositions = Fills [] (x .samples + 1) (λ k. x .values k .position)
 
-  -- "A reference row for the feedback loop holds position[k], undelayed, for k from 0 to N."
-  unfoldable pub referenceRow : ℕ → ℤ
-  referenceRow k = x .values k .position
-
-  -- What the reference table's entry promises.
+  -- What the reference table's entry promises: rows "for k from 0 to N+1", and "Refusal 8 asks N+2 places for it".
   unfoldable pub FillsReference : (old : List ℤ) (o : Result ℕ ℕ) (new : List ℤ) → Type 0
-  FillsReference = Fills [] (x .samples + 1) referenceRow
+  FillsReference = Fills [] (x .samples + 2) (referenceRow (x .samples) (x .values))
 
 -- The fourth order alone has force rows.
 module _ (m : Move) where

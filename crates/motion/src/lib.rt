@@ -5,6 +5,7 @@ mod count;
 mod force;
 mod planned;
 mod positions;
+mod reference;
 mod refusal;
 mod segments;
 mod state;
@@ -17,6 +18,8 @@ use crate::force::table::write_rows;
 use crate::planned::samples_in_plan;
 use crate::planned::samples_in_third;
 use crate::positions::table::write_positions;
+use crate::reference::table::write_reference;
+use crate::reference::table::write_third_reference;
 use crate::refusal::no_samples;
 use crate::refusal::plan_refusal;
 use crate::refusal::third_refusal;
@@ -155,7 +158,7 @@ pub fn fill_positions(m: Move, table: &mut [i64]) -> TableAnswer
     write_positions(table, m.displacement, plan)
 }
 
-// Fills a table with the reference rows of a move at samples 0 to N, for the feedback loop. By the rule they are its positions.
+// Fills a table with the reference rows of a move, 0 to N+1, for the feedback loop: each is the position there and the one before it, added.
 pub fn fill_reference(m: Move, table: &mut [i64]) -> TableAnswer
     ensures { λ r. ⌜ FillsReference (fourthOrder m) (now (table .entry)) (tableOutcome r) (now (table .exit)) ⌝ }
 {
@@ -163,7 +166,7 @@ pub fn fill_reference(m: Move, table: &mut [i64]) -> TableAnswer
     let PlanAnswer::Planned(plan) = answer else {
         return TableAnswer::Refused(plan_refusal(answer));
     };
-    write_positions(table, m.displacement, plan)
+    write_reference(table, m.displacement, plan)
 }
 
 // Fills a table with the force rows of a move and a machine at rows 0 to N+1, for the drive's feedforward.
@@ -202,7 +205,7 @@ pub fn fill_positions_third(m: Move, table: &mut [i64]) -> TableAnswer
     write_third(table, m.displacement, plan)
 }
 
-// Fills a table with the reference rows of a move in the third order at samples 0 to N. By the rule they are its positions.
+// Fills a table with the reference rows of a move in the third order, 0 to N+1.
 pub fn fill_reference_third(m: Move, table: &mut [i64]) -> TableAnswer
     ensures { λ r. ⌜ FillsReference (thirdOrder m) (now (table .entry)) (tableOutcome r) (now (table .exit)) ⌝ }
 {
@@ -210,7 +213,7 @@ pub fn fill_reference_third(m: Move, table: &mut [i64]) -> TableAnswer
     let ThirdAnswer::Planned(plan) = answer else {
         return TableAnswer::Refused(third_refusal(answer));
     };
-    write_third(table, m.displacement, plan)
+    write_third_reference(table, m.displacement, plan)
 }
 
 // The paper's number of a refusal.

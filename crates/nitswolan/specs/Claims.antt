@@ -99,7 +99,7 @@ CallerTableRefusals {A} Promise Reason =
 pub record CallerRefusals (x : Motion) : Type 0 where
   pub sample : (k : ℕ) (r : SampleResult) → Answers sampleFields (Samples x k) r → FieldRefusedBy (r .refusal) (Only 9 (x .samples < k))
   pub positions : CallerTableRefusals (FillsPositions x) (TableReason (x .samples + 1))
-  pub reference : CallerTableRefusals (FillsReference x) (TableReason (x .samples + 1))
+  pub reference : CallerTableRefusals (FillsReference x) (TableReason (x .samples + 2))
 
 pub record CallerRefusalsClaim : Type 0 where
   pub fourth : (m : Move) → Accepted m → CallerRefusals (fourthOrder m)

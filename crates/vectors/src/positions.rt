@@ -12,7 +12,7 @@ use crate::writing::write_signed;
 use motion::TableAnswer;
 use planner::Move;
 
-// What each place holds before the call: 2^62, no position of a move.
+// What each place holds before the call: 2^62, above every row.
 const MARK: i64 = 4_611_686_018_427_387_904;
 
 pub(crate) fn answer_positions(kind: u8, third: bool) {

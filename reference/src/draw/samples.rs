@@ -85,15 +85,6 @@ pub fn beyond_half(position: i64) -> i64 {
 pub fn places(order: Order, motion: &Move, more: u64, random: &mut Random) -> u64 {
     let n = plan(order, motion).samples();
     let rows = n.unwrap_or_else(|| random.below(4_097)) + more;
-    random.pick(&[
-        0,
-        rows - 1,
-        rows,
-        rows,
-        rows,
-        rows + 1,
-        rows + 6,
-        4_098,
-        4_200,
-    ])
+    let [short, long, longer] = [rows - 1, rows + 1, rows + 6];
+    random.pick(&[0, short, rows, rows, rows, long, longer, 4_098, 4_200])
 }

@@ -1,18 +1,28 @@
-//! The table of reference rows for the feedback loop.
+//! The table of reference rows for the feedback loop (document 02, request 4).
 
 use super::{Profile, TableAnswer};
 use crate::planner::{Move, Order};
 
-/// Writes the reference rows 0 to N and keeps every later place, or writes
+/// The rows are 0 to N+1: two more than N.
+const MORE_ROWS: u64 = 2;
+
+/// Writes the reference rows 0 to N+1 and keeps every later place, or writes
 /// nothing and refuses.
 pub fn reference_table(order: Order, motion: &Move, table: &mut [i64]) -> TableAnswer {
-    let profile = match Profile::fitting(order, motion, table.len(), 1) {
+    let profile = match Profile::fitting(order, motion, table.len(), MORE_ROWS) {
         Ok(profile) => profile,
         Err(number) => return TableAnswer::Refused(number),
     };
-    // Undelayed: row k holds the position at sample k itself.
-    for (row, (_, state)) in table.iter_mut().zip(profile.states()) {
-        *row = state.position;
+    let rows = profile.samples + MORE_ROWS;
+    let mut positions = profile.states().map(|(_, state)| state.position);
+    // The position before sample 0.
+    let mut before = 0;
+    for row in &mut table[..rows as usize] {
+        // After sample N the last position is held.
+        let here = positions.next().unwrap_or(before);
+        // Half a sample late is the mean of two; doubled it is whole, and 2^61 at most.
+        *row = here + before;
+        before = here;
     }
-    TableAnswer::Written(profile.samples + 1)
+    TableAnswer::Written(rows)
 }

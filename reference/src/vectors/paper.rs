@@ -18,7 +18,9 @@ pub fn requests() -> Vec<Request> {
     // At sample 4 the second is at half a count, which rounds to 1, and backward to -1.
     list.extend([moves[1], moves[9]].map(|second| Request::Sample(Fourth, second, 4)));
     list.push(Request::Positions(Fourth, first, PLACES));
-    list.push(Request::Reference(Fourth, first, PLACES));
+    // Just enough places and one too few; the third move falls short of its way.
+    let tables = [(first, PLACES), (first, 10), (first, 9), (moves[2], 11)];
+    list.extend(tables.map(|(motion, places)| Request::Reference(Fourth, motion, places)));
     list.extend(paper::machines().map(|machine| Request::Force(first, machine, PLACES)));
     list.push(Request::Sheet(paper::SHEET.to_vec()));
     let moves = std::array::from_fn(|place| moves[place]);
@@ -37,6 +39,6 @@ fn third() -> Vec<Request> {
     list.extend([moves[4], moves[12]].map(|fifth| Request::Sample(Third, fifth, 5)));
     list.extend((0..=13).map(|k| Request::Sample(Third, worked, k)));
     list.push(Request::Positions(Third, worked, 15));
-    list.push(Request::Reference(Third, worked, 15));
+    list.extend([15, 14, 13].map(|places| Request::Reference(Third, worked, places)));
     list
 }

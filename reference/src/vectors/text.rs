@@ -7,7 +7,7 @@ use crate::request::{Outcome, Request};
 /// Places of a table that are written out; the sum is over all of them.
 const SHOWN: usize = 12;
 
-/// What a place holds before the call: no position and no force is so large.
+/// What a place holds before the call: no row is so large.
 const MARK: u64 = 1 << 62;
 const FORCE_MARK: u64 = (1_023 + 900) << 52;
 

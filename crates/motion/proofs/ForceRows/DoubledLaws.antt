@@ -28,7 +28,7 @@ cut N f h = fun-ext (λ k. by-test k (leb k N) (λ l. h k (le-of-lt (nleb→lt k
     by-test k true z = refl
     by-test k false z = sym (z tt)
 
-earlier-size : (f : ℕ → ℤ) (most : ℕ) → ((k : ℕ) → natAbs (f k) ≤ most) → (n k : ℕ) → natAbs (earlier f n k) ≤ most
+pub earlier-size : (f : ℕ → ℤ) (most : ℕ) → ((k : ℕ) → natAbs (f k) ≤ most) → (n k : ℕ) → natAbs (earlier f n k) ≤ most
 unfolding earlier
 earlier-size f most h zero k = h k
 earlier-size f most h (suc n) zero = zero-le

@@ -25,8 +25,8 @@ returns : tie.Need-returns
 unfolding FillsReference
 returns c = fills-refused _ _ (plan-refused (c .before .before .before .plan-move .ensures) (c .plan-refusal .ensures))
 
-write-positions-requires : tie.Need-write-positions-requires
-write-positions-requires c κs =
+write-reference-requires : tie.Need-write-reference-requires
+write-reference-requires c κs =
     let d = c .before .before .before in
     within-range (answer-facts (d .before .before .plan-move .ensures) (d .answer .given .1))
 
@@ -40,7 +40,7 @@ returns-2 c =
     toZ-ofZ {w = w64} {z = d .before .before .before .args .m .displacement}
     (record { sfits = c .before .before .struct-told .given .0 .1 }) in
     let h = answer-facts (d .before .before .plan-move .ensures) (d .answer .given .1) in
-    fills-reference (fourth-planned h) (rw back at (c .before .write-positions .ensures))
+    fills-reference (fourth-planned h) (rw back at (c .before .write-reference .ensures))
 
 pub fill-reference-spec : {M : Type 1} → statement M
 fill-reference-spec =
@@ -51,6 +51,6 @@ fill-reference-spec =
     enum-told
     plan-refusal-requires
     returns
-    write-positions-requires
+    write-reference-requires
     same-length
     returns-2)

@@ -25,8 +25,8 @@ returns : tie.Need-returns
 unfolding FillsReference
 returns c = fills-refused _ _ (third-plan-refused (c .before .before .before .plan-third .ensures) (c .third-refusal .ensures))
 
-write-third-requires : tie.Need-write-third-requires
-write-third-requires c κs =
+write-third-reference-requires : tie.Need-write-third-reference-requires
+write-third-reference-requires c κs =
     let d = c .before .before .before in
     third-within-range (third-answer-facts (d .before .before .plan-third .ensures) (d .answer .given .1))
 
@@ -40,7 +40,7 @@ returns-2 c =
     toZ-ofZ {w = w64} {z = d .before .before .before .args .m .displacement}
     (record { sfits = c .before .before .struct-told .given .0 .1 }) in
     let h = third-answer-facts (d .before .before .plan-third .ensures) (d .answer .given .1) in
-    fills-reference (third-planned h) (rw back at (c .before .write-third .ensures))
+    fills-reference (third-planned h) (rw back at (c .before .write-third-reference .ensures))
 
 pub fill-reference-third-spec : {M : Type 1} → statement M
 fill-reference-third-spec =
@@ -51,6 +51,6 @@ fill-reference-third-spec =
     enum-told
     third-refusal-requires
     returns
-    write-third-requires
+    write-third-reference-requires
     same-length
     returns-2)

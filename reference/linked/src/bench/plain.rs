@@ -10,7 +10,7 @@ pub mod sheet;
 
 pub use forces::forces;
 pub use narrow::plan_narrow;
-pub use positions::positions;
+pub use positions::{positions, references};
 
 use reference::planner::{durations, Answer, Move, Order};
 use reference::profile::{segments, Segment, SEGMENT_COUNT};
@@ -21,10 +21,10 @@ struct Plan {
     rows: u64,
 }
 
-/// The plan for N and `more` rows, if the table has room for them; otherwise the
-/// refusal.
-fn planned(motion: &Move, places: usize, more: u64) -> Result<Plan, u8> {
-    let plan = match plan_narrow(motion) {
+/// What a planner's answer leads to for N and `more` rows, if the table has room for
+/// them; otherwise the refusal.
+fn planned(answer: Answer, motion: &Move, places: usize, more: u64) -> Result<Plan, u8> {
+    let plan = match answer {
         Answer::Refused(number) => return Err(number),
         Answer::Planned(plan) => plan,
     };

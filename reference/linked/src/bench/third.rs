@@ -2,11 +2,11 @@
 
 use super::contest::{Contest, Timed};
 use super::inputs::{pairs_of, planned_mix};
-use super::tables::Entry;
+use super::tables::{Entry, REFERENCE_AIM};
 use super::{agree, Section, PLACES, SAMPLES};
 use crate::library;
-use reference::planner::plan;
 use reference::planner::Order::{Fourth, Third};
+use reference::planner::{plan, Move};
 use reference::request::Request;
 
 /// The parts of the other's time that a plan and a table may take.
@@ -17,11 +17,15 @@ pub fn section() -> Result<Section, String> {
     let mut contests = vec![planned()?];
     for n in SAMPLES {
         let (third, fourth) = (library::fill_positions_third, library::fill_positions);
-        contests.push(filled("positions", n, third, fourth)?);
+        contests.push(filled("positions", n, third, fourth)?.ready());
     }
     for n in SAMPLES {
         let (third, fourth) = (library::fill_reference_third, library::fill_reference);
-        contests.push(filled("reference", n, third, fourth)?);
+        let contest = filled("reference", n, third, fourth)?;
+        let contest = contest.against("position table", REFERENCE_AIM, |[_, motion], table| {
+            library::fill_positions_third(*motion, table)
+        });
+        contests.push(contest.ready());
     }
     Ok(Section {
         title: "Third order",
@@ -52,7 +56,7 @@ fn filled(
     n: u64,
     third: impl Entry,
     fourth: impl Entry,
-) -> Result<Box<dyn Timed>, String> {
+) -> Result<Contest<[Move; 2], [i64]>, String> {
     let pairs = pairs_of(n);
     for (order, motion) in pairs.iter().flat_map(|[f, t]| [(Fourth, f), (Third, t)]) {
         agree(&Request::Positions(order, *motion, PLACES as u64))?;
@@ -64,5 +68,5 @@ fn filled(
         .against("fourth order", TABLE_AIM, move |[motion, _], table| {
             fourth(*motion, table)
         });
-    Ok(contest.ready())
+    Ok(contest)
 }

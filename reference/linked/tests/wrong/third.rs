@@ -1,13 +1,10 @@
 use super::assert_found;
-use linked::differential::{Entries, Lent, Proved};
-use linked::library::{Move, SampleResult, TableResult, ThirdPlanResult};
+use linked::differential::{Entries, Proved};
+use linked::library::{Move, SampleResult, ThirdPlanResult};
 
-const TABLES: [&str; 2] = ["third_positions", "third_reference"];
-
-/// What becomes of a right plan, sample or table.
+/// What becomes of a right plan or sample; the tables are with those of fourth order.
 struct Plans(fn(Move, &mut ThirdPlanResult));
 struct Samples(fn(u64, &mut SampleResult));
-struct Tables(fn(&mut TableResult, &mut [i64]));
 
 impl Entries for Plans {
     fn plan_third(&self, motion: Move) -> ThirdPlanResult {
@@ -21,20 +18,6 @@ impl Entries for Samples {
     fn sample_third(&self, motion: Move, sample: u64) -> SampleResult {
         let mut result = Proved.sample_third(motion, sample);
         self.0(sample, &mut result);
-        result
-    }
-}
-
-impl Entries for Tables {
-    fn fill_positions_third(&self, motion: Move, table: &mut Lent<i64>) -> TableResult {
-        let mut result = Proved.fill_positions_third(motion, table);
-        self.0(&mut result, table.places());
-        result
-    }
-
-    fn fill_reference_third(&self, motion: Move, table: &mut Lent<i64>) -> TableResult {
-        let mut result = Proved.fill_reference_third(motion, table);
-        self.0(&mut result, table.places());
         result
     }
 }
@@ -76,29 +59,4 @@ fn a_remainder_towards_zero_at_a_half() {
         }
     });
     assert_found(&wrong, "third_sample", "from field 7 on");
-}
-
-#[test]
-fn a_last_row_that_is_left_out() {
-    let wrong = Tables(|result, table| {
-        if let Some(last) = result.rows.checked_sub(1) {
-            table[last as usize] = 0;
-        }
-    });
-    for kind in TABLES {
-        assert_found(&wrong, kind, "holds 0\nreference: place");
-    }
-}
-
-/// With N+1 places the table is refused.
-#[test]
-fn a_place_more_that_is_asked_for() {
-    let wrong = Tables(|result, table| {
-        if result.refusal == 0 && result.rows == table.len() as u64 {
-            result.refusal = 8;
-        }
-    });
-    for kind in TABLES {
-        assert_found(&wrong, kind, "library: refusal 8");
-    }
 }

@@ -1,13 +1,13 @@
 //! Forces of a rigid or a filtered drive.
 
-use super::planned;
+use super::{plan_narrow, planned};
 use reference::force::{Coefficients, Drive, Machine};
 use reference::planner::Move;
 use reference::profile::{Segment, TableAnswer};
 
 #[inline(never)]
 pub fn forces(motion: &Move, machine: &Machine, table: &mut [f64]) -> TableAnswer {
-    let plan = match planned(motion, table.len(), 2) {
+    let plan = match planned(plan_narrow(motion), motion, table.len(), 2) {
         Ok(plan) => plan,
         Err(number) => return TableAnswer::Refused(number),
     };

@@ -1,21 +1,40 @@
-//! Positions, and so reference rows.
+//! Positions, and reference rows.
 
-use super::planned;
-use reference::planner::Move;
+use super::{plan_narrow, planned, Plan};
+use reference::planner::{Answer, Move};
 use reference::profile::TableAnswer;
 
 #[inline(never)]
 pub fn positions(motion: &Move, table: &mut [i64]) -> TableAnswer {
-    let plan = match planned(motion, table.len(), 1) {
+    let plan = planned(plan_narrow(motion), motion, table.len(), 1);
+    filled(plan, table, |position| position)
+}
+
+/// By the answer of either planner. Each row adds the position before.
+pub fn references(answer: Answer, motion: &Move, table: &mut [i64]) -> TableAnswer {
+    let mut before = 0;
+    filled(planned(answer, motion, table.len(), 2), table, |position| {
+        let row = position + before;
+        before = position;
+        row
+    })
+}
+
+fn filled(
+    plan: Result<Plan, u8>,
+    table: &mut [i64],
+    mut row: impl FnMut(i64) -> i64,
+) -> TableAnswer {
+    let plan = match plan {
         Ok(plan) => plan,
         Err(number) => return TableAnswer::Refused(number),
     };
     let (mut jerk, mut acceleration, mut velocity, mut position) = (0, 0, 0, 0);
-    let mut rest = table;
+    let mut rest = &mut table[..plan.rows as usize];
     for segment in &plan.segments {
         let (places, after) = rest.split_at_mut(segment.samples);
         for place in places {
-            *place = position;
+            *place = row(position);
             position += velocity;
             velocity += acceleration;
             acceleration += jerk;
@@ -23,6 +42,7 @@ pub fn positions(motion: &Move, table: &mut [i64]) -> TableAnswer {
         }
         rest = after;
     }
-    rest[0] = position;
+    // The segments end at sample N-1; the rows that are left hold where they have led.
+    rest.fill_with(|| row(position));
     TableAnswer::Written(plan.rows)
 }
