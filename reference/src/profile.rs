@@ -18,6 +18,9 @@ pub use state::State;
 use crate::planner::{durations, plan, Answer, Move, Order, Plan};
 use std::iter;
 
+/// Reference rows and force rows are 0 to N+1: two more than N.
+pub const MORE_ROWS: u64 = 2;
+
 /// What a table entry says.
 #[derive(Clone, Copy, Debug, PartialEq, Eq)]
 pub enum TableAnswer {

@@ -70,25 +70,25 @@ static void check_table(checks *tally, const char *what, raw_table_result answer
 
 /* Lends so many places of a table for the first move, forward or backward. The rows that are wanted, in counts, must stand from place 0 on,
  * and every other place, lent or not, must be as it was. */
-static void check_lent(checks *tally, const char *what, fill_table fill, int way, size_t places, const int *counts, uint64_t rows) {
+static void check_lent(checks *tally, const char *what, fill_table fill, int direction, size_t places, const int *counts, uint64_t rows) {
   int64_t table[12];
   raw_move move = first_move();
-  if (way < 0) {
+  if (direction < 0) {
     move.words[MOVE_DISPLACEMENT / 8] = -move.words[MOVE_DISPLACEMENT / 8];
   }
   memset(table, 0x55, sizeof table);
   check_table(tally, what, fill(move, table, places), rows == 0 ? 8 : 0, rows);
   for (uint64_t k = 0; k < sizeof table / sizeof *table; k++) {
-    check(tally, what, (uint64_t)table[k], k < rows ? (uint64_t)(way * counts[k] * (int64_t)G) : UINT64_C(0x5555555555555555));
+    check(tally, what, (uint64_t)table[k], k < rows ? (uint64_t)(direction * counts[k] * (int64_t)G) : UINT64_C(0x5555555555555555));
   }
 }
 
 /* As many places as rows are enough, and one fewer is refused. */
 static void check_rows(checks *tally, const char *what, fill_table fill, const int *counts, uint64_t rows) {
-  for (int way = -1; way <= 1; way += 2) {
-    check_lent(tally, what, fill, way, rows - 1, counts, 0);
-    check_lent(tally, what, fill, way, rows, counts, rows);
-    check_lent(tally, what, fill, way, rows + 1, counts, rows);
+  for (int direction = -1; direction <= 1; direction += 2) {
+    check_lent(tally, what, fill, direction, rows - 1, counts, 0);
+    check_lent(tally, what, fill, direction, rows, counts, rows);
+    check_lent(tally, what, fill, direction, rows + 1, counts, rows);
   }
 }
 

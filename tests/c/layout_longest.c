@@ -22,11 +22,11 @@ static void check_places(checks *tally) {
 }
 
 /* Moves of 2^20 counts with the widest bounds: they end on 2^60 units, at sample 1,028, or 1,026 in third order. */
-static void check_farthest(checks *tally, int way) {
+static void check_farthest(checks *tally, int direction) {
   static int64_t table[NITSWOLAN_MOST_REFERENCE];
   const uint64_t bound = UINT64_C(1) << 50;
-  const nitswolan_move move = {way * INT64_C(1048576), bound, bound, bound, bound};
-  const uint64_t last = (uint64_t)(way * (INT64_C(1) << 61));
+  const nitswolan_move move = {direction * INT64_C(1048576), bound, bound, bound, bound};
+  const uint64_t last = (uint64_t)(direction * (INT64_C(1) << 61));
   check(tally, "farthest reference rows", nitswolan_fill_reference(move, table, NITSWOLAN_MOST_REFERENCE).rows, 1030);
   check(tally, "farthest reference row", (uint64_t)table[1029], last);
   check(tally, "farthest third-order reference rows", nitswolan_fill_reference_third(move, table, NITSWOLAN_MOST_REFERENCE).rows, 1028);

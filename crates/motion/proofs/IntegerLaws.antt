@@ -40,6 +40,10 @@ pub size-doubled : (x : ℤ) → natAbs (pos 2 *ℤ x) ≡ 2 * natAbs x
 size-doubled (pos n) = refl
 size-doubled (negsuc n) = size-negated (pos (2 * suc n))
 
+pub doubled-sum : (x : ℤ) → pos 2 *ℤ x ≡ x +ℤ x
+doubled-sum (pos n) = ap pos (omega arith)
+doubled-sum (negsuc n) = let twice : 2 * suc n ≡ suc (suc (n + n)) = omega arith in ap (λ (k : ℕ). negℤ (pos k)) twice
+
 pub difference : (m n : ℕ) → n ≤ m → pos m -ℤ pos n ≡ pos (m - n)
 difference m zero h = ap pos (omega arith)
 difference m (suc n) h = ap (λ (t : Bool). cond t (negsuc (suc n - suc m)) (pos (m - suc n))) (le-ltb m (suc n) h)
@@ -54,21 +58,18 @@ not-below-zero n = record { le = le→leb 0 n zero-le }
 pub pos-below : (m n : ℕ) → m < n → pos m <ℤ pos n
 pos-below m n h = record { lt = lt→ltb m n h }
 
--- what is at most 2^61 in size fits an i64, and so does what is at most 2^60
-pub wide-fits : (x : ℤ) → natAbs x ≤ 2 ^ 61 → SFits w64 x
+-- what is at most 2^61 in size fits an i64; so does what is at most 2^60, and the sum of two such
+wide-fits : (x : ℤ) → natAbs x ≤ 2 ^ 61 → SFits w64 x
 wide-fits (pos n) h = record { sfits = omega arith }
 wide-fits (negsuc n) h = record { sfits = omega arith }
 
 pub small-fits : (x : ℤ) → natAbs x ≤ 2 ^ 60 → SFits w64 x
 small-fits x h = wide-fits x (omega arith)
 
-pub small-sum-fits : (x y : ℤ) → natAbs x ≤ 2 ^ 60 → natAbs y ≤ 2 ^ 60 → SFits w64 (x +ℤ y)
-small-sum-fits x y h k = wide-fits (x +ℤ y) (omega (arith, size-sum x y))
-
-pub sum-fits : (x y : ℤ) → natAbs x ≤ 2 ^ 59 → natAbs y ≤ 2 ^ 59 → SFits w64 (x +ℤ y)
-sum-fits x y h k = small-fits (x +ℤ y) (omega (arith, size-sum x y))
+pub sum-fits : (x y : ℤ) → natAbs x ≤ 2 ^ 60 → natAbs y ≤ 2 ^ 60 → SFits w64 (x +ℤ y)
+sum-fits x y h k = wide-fits (x +ℤ y) (omega (arith, size-sum x y))
 
 -- whichever is taken from the other
-pub differences-fit : (x y : ℤ) → natAbs x ≤ 2 ^ 59 → natAbs y ≤ 2 ^ 59 → SFits w64 (x -ℤ y) × SFits w64 (y -ℤ x)
+pub differences-fit : (x y : ℤ) → natAbs x ≤ 2 ^ 60 → natAbs y ≤ 2 ^ 60 → SFits w64 (x -ℤ y) × SFits w64 (y -ℤ x)
 differences-fit x y h k =
     (sum-fits x (negℤ y) h (rw (size-negated y) k), sum-fits y (negℤ x) k (rw (size-negated x) h))

@@ -12,18 +12,22 @@ use Rattle.motion.specs.declared.segments.Segment.{Segment}
 use Rattle.motion.specs.declared.switched.Levels.{Levels}
 use Rattle.motion.specs.Inner.Runs.{CanRun, Ran}
 use Rattle.motion.specs.Inner.SegmentLists.{segmentsOf, SegmentAt}
-use Rattle.motion.specs.Inner.Pairs.{orderRun}
+use Rattle.motion.specs.Inner.OrderRuns.{orderRun}
 use Rattle.motion.proofs.SegmentRuns.{sixteen, eight, in-eight}
 
 module _ {third t : Bool} (asked : third ≡ t) {xs : List ℤ} (s : State) where
-  pub can-of : {places : ℕ} → CanRun (orderRun third .writer) xs (orderRun third .carried s) places → CanRun (orderRun t .writer) xs (orderRun t .carried s) places
+  pub can-of :
+      {places : ℕ}
+      → CanRun (orderRun third .writer) xs (orderRun third .carried s) places
+      → CanRun (orderRun t .writer) xs (orderRun t .carried s) places
   can-of {places} = subst (λ (t : Bool). CanRun (orderRun t .writer) xs (orderRun t .carried s) places) asked
 
   pub ran-of :
       (end : State) {old new : List ℤ}
       → Ran (orderRun t .writer) xs (orderRun t .carried s) old new (orderRun t .carried end)
       → Ran (orderRun third .writer) xs (orderRun third .carried s) old new (orderRun third .carried end)
-  ran-of end {old} {new} = subst (λ (t : Bool). Ran (orderRun t .writer) xs (orderRun t .carried s) old new (orderRun t .carried end)) (sym asked)
+  ran-of end {old} {new} =
+      subst (λ (t : Bool). Ran (orderRun t .writer) xs (orderRun t .carried s) old new (orderRun t .carried end)) (sym asked)
 
 -- how many segments there are
 pub counted : (third : Bool) (d : Durations) → length (orderRun third .segments d) ≡ orderRun third .segmentCount

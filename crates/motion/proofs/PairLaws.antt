@@ -1,5 +1,5 @@
 -- Pairs: the sums of the pairs of a value are the pairs of its sums, and what is carried along for them.
-use mathlib.Core.Path.{_≡_, refl, sym, ap, _∙_}
+use mathlib.Core.Path.{_≡_, refl, ap, _∙_}
 use Prim.Native.Nat.{ℕ, zero, suc, _≤_, _^_}
 use lib.IntN.{ℤ, natAbs, _+ℤ_, +ℤ-assoc, +ℤ-comm}
 use mir.Syntax.{w64}
@@ -10,7 +10,7 @@ use Rattle.profile.proofs.SumLaws.{sum-of-equal}
 use Rattle.motion.specs.ForceRows.Doubled.{earlier}
 use Rattle.motion.specs.Inner.Runs.{Writer}
 use Rattle.motion.specs.Inner.Pairs.{pairs, pairWriter}
-use Rattle.motion.proofs.IntegerLaws.{small-sum-fits}
+use Rattle.motion.proofs.IntegerLaws.{sum-fits}
 use Rattle.motion.proofs.RowLaws.{Carries}
 use Rattle.motion.proofs.ForceRows.DoubledLaws.{earlier-size}
 
@@ -39,7 +39,7 @@ sums-pairs (suc n) f k = sum-of-equal (sums n (pairs f)) (pairs (sums n f)) (sum
 
 -- a pair of small values fits
 pub pair-fits : (f : ℕ → ℤ) → ((k : ℕ) → natAbs (f k) ≤ 2 ^ 60) → (k : ℕ) → SFits w64 (pairs f k)
-pair-fits f h k = small-sum-fits (f k) (earlier f 1 k) (h k) (earlier-size f (2 ^ 60) h 1 k)
+pair-fits f h k = sum-fits (f k) (earlier f 1 k) (h k) (earlier-size f (2 ^ 60) h 1 k)
 
 -- what is carried along the pairs, with the value before
 pub paired-carries :

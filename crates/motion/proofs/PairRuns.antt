@@ -1,15 +1,12 @@
 -- A segment along the pairs: one step over the first pair, and the others over twice the value.
-use mathlib.Core.List.{List, _∷_}
+use mathlib.Core.List.{List}
 use mathlib.Core.Path.{_≡_, refl, sym, ap, ap₂, subst, _∙_}
 use Prim.Native.Nat.{ℕ, zero, suc, _-_, _<_}
-use native.Mathlib.Nat.{not-suc-le-zero}
 use native.Mathlib.Omega.{arith}
 use lib.IntN.{ℤ, _+ℤ_}
 use lib.ListN.{length, set, replicate, length-replicate}
-use mir.Syntax.{w64}
-use mir.Val.{SFits}
 use Rattle.motion.specs.Inner.Runs.{Writer, after, stored, StepsFit, CanRun, Ran}
-use Rattle.motion.specs.Inner.Pairs.{PairFits, pairWriter}
+use Rattle.motion.specs.Inner.Pairs.{PairStepFits, pairWriter}
 use Rattle.motion.proofs.RunLaws.{ran-length}
 
 module _ {S A : Type 0} (w : Writer S A) (x : ℤ) where
@@ -39,7 +36,7 @@ module _ {S A : Type 0} (w : Writer S A) (x : ℤ) where
       fits : StepsFit (pairWriter w) (replicate (suc (n - 1)) x) (s, b)
       fits = subst (λ (n : ℕ). StepsFit (pairWriter w) (replicate n x) (s, b)) one-more (can .fits)
 
-      pub first-fits : PairFits w (s, b) x
+      pub first-fits : PairStepFits w (s, b) x
       unfolding StepsFit
       first-fits = fits .0
 

@@ -11,13 +11,12 @@ use Rattle.planner.specs.Third.{ThirdIntervals}
 use Rattle.profile.specs.Profile.{sum}
 use Rattle.profile.specs.Inner.Repeated.{sums}
 use Rattle.profile.specs.Inner.Widths.{product}
-use Rattle.motion.specs.Sampling.{valuesAt}
 use Rattle.motion.specs.ForceRows.Doubled.{earlier}
 use Rattle.motion.specs.Inner.Steps.{StepFits, stateAt, sumsAt, thirdStateAt}
 use Rattle.motion.specs.Inner.Runs.{positionWriter, thirdWriter}
 use Rattle.motion.specs.Inner.Planned.{WithinRange, ThirdWithinRange, directedSnap}
-use Rattle.motion.specs.Inner.Pairs.{pairs, PairsFit, PairFits}
-use Rattle.motion.proofs.IntegerLaws.{small-sum-fits}
+use Rattle.motion.specs.Inner.Pairs.{pairs, PairsFit, PairStepFits}
+use Rattle.motion.proofs.IntegerLaws.{sum-fits}
 use Rattle.motion.proofs.DirectedSizes.{DirectedOver, acceleration-below, velocity-below, position-below, reach-speed}
 use Rattle.motion.proofs.DirectedSizes as sizes
 use Rattle.motion.proofs.StateLaws as fourth
@@ -30,9 +29,9 @@ module _
     (h : DirectedOver X a inner c e D f) (reach : D * product a (e ∷ c ∷ inner) ≤ 2 ^ 60)
   where
     -- the jerk's own sum is left to the order
-    pairs-fit : (k : ℕ) → k ≤ 2 ^ 60 → (x : ℤ) → SFits w64 (pairs f k +ℤ x) → StepFits (thirdStateAt (pairs f) k) x
+    pair-sums-fit : (k : ℕ) → k ≤ 2 ^ 60 → (x : ℤ) → SFits w64 (pairs f k +ℤ x) → StepFits (thirdStateAt (pairs f) k) x
     unfolding sum sums
-    pairs-fit k l x own =
+    pair-sums-fit k l x own =
         let speed = reach-speed h reach in
         record {
           sample = record { fits = omega arith };
@@ -46,7 +45,7 @@ module _
         }
 
 both-fit : (f : ℕ → ℤ) → ((k : ℕ) → natAbs (f k) ≤ 2 ^ 60) → (k : ℕ) → PairsFit (f k) (earlier f 1 k)
-both-fit f h k = record { pair = pair-fits f h k; twice = small-sum-fits (f k) (f k) (h k) (h k) }
+both-fit f h k = record { pair = pair-fits f h k; twice = sum-fits (f k) (f k) (h k) (h k) }
 
 module _ (X : ℤ) (t : Intervals) (D : ℕ) (h : WithinRange t D) (k : ℕ) (l : k ≤ 2 ^ 60) where
   abbrev snap : ℕ → ℤ
@@ -65,11 +64,11 @@ module _ (X : ℤ) (t : Intervals) (D : ℕ) (h : WithinRange t D) (k : ℕ) (l 
   steps-fit =
       let summed : sum (pairs snap) ≡ pairs (sum snap) = fun-ext (sum-pairs snap) in
       subst (λ (g : ℕ → ℤ). StepFits (thirdStateAt g k) (pairs snap k)) (sym summed)
-      (pairs-fit (fourth.over X t D h) (h .reach) k l (pairs snap k)
+      (pair-sums-fit (fourth.over X t D h) (h .reach) k l (pairs snap k)
       (subst (λ (g : ℕ → ℤ). SFits w64 (g k +ℤ pairs snap k)) summed
       (subst (SFits w64) (sym (sum-pairs snap (suc k))) (pair-fits (sum snap) jerk-below (suc k)))))
 
-  pub pair-steps-fit : PairFits positionWriter (stateAt (pairs snap) k, earlier snap 1 k) (snap k)
+  pub pair-steps-fit : PairStepFits positionWriter (stateAt (pairs snap) k, earlier snap 1 k) (snap k)
   pair-steps-fit =
       record {
         pairs-fit = both-fit snap snap-below k;
@@ -84,12 +83,12 @@ module _ (X : ℤ) (t : ThirdIntervals) (D : ℕ) (h : ThirdWithinRange t D) (k 
   unfolding product
   third-jerk-below = sizes.jerk-below (third.over X t D h) (2 ^ 60) (reach-speed (third.over X t D h) (h .reach))
 
-  pub third-pair-steps-fit : PairFits thirdWriter (sumsAt (pairs jerk) k, earlier jerk 1 k) (jerk k)
+  pub third-pair-steps-fit : PairStepFits thirdWriter (sumsAt (pairs jerk) k, earlier jerk 1 k) (jerk k)
   unfolding product
   third-pair-steps-fit =
       record {
         pairs-fit = both-fit jerk third-jerk-below k;
         step =
-            pairs-fit (third.over X t D h) (h .reach) k l (pos 0)
+            pair-sums-fit (third.over X t D h) (h .reach) k l (pos 0)
             (subst (SFits w64) (sym (+ℤ-idr (pairs jerk k))) (pair-fits jerk third-jerk-below k));
       }

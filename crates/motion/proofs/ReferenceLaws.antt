@@ -6,7 +6,7 @@ use Prim.Native.Nat.{ℕ, _+_, _*_, _≤_, _<_, min}
 use native.Mathlib.Decide.{decLe}
 use native.Mathlib.Nat.{le-refl}
 use native.Mathlib.Omega.{arith}
-use lib.IntN.{ℤ, pos, _+ℤ_}
+use lib.IntN.{ℤ, pos}
 use lib.ListN.{length}
 use Rattle.planner.specs.Quantities.{along}
 use Rattle.planner.specs.Intervals.{Intervals, N}
@@ -24,11 +24,11 @@ use Rattle.motion.specs.ForceRows.Doubled.{earlier}
 use Rattle.motion.specs.declared.state.State.{State}
 use Rattle.motion.specs.declared.segments.Durations.{Durations}
 use Rattle.motion.specs.declared.switched.Levels.{Levels}
-use Rattle.motion.specs.Inner.Runs.{Writer, CanRun}
+use Rattle.motion.specs.Inner.Runs.{Writer, CanRun, RanThrough}
 use Rattle.motion.specs.Inner.SwitchedLevels.{AreLevels}
 use Rattle.motion.specs.Inner.SegmentLists.{IsDurations, AreThirdDurations, fourthSegments, thirdSegments}
 use Rattle.motion.specs.Inner.Planned.{WithinRange, ThirdWithinRange, directedSnap, RowsIn}
-use Rattle.motion.specs.Inner.Pairs.{pairs, PairFits, pairWriter, listIn, pairRun, pairedRest, RanThrough}
+use Rattle.motion.specs.Inner.Pairs.{pairs, PairStepFits, pairWriter, listIn, pairRun, pairedRest}
 use Rattle.motion.proofs.OrderedLaws.{spread, fourth-samples, third-spread, third-samples}
 use Rattle.motion.proofs.StateLaws.{state-is}
 use Rattle.motion.proofs.ThirdStates.{directedJerk, third-values}
@@ -70,7 +70,7 @@ module _
 
     pairs-can-run :
         {places : ℕ}
-        → ((k : ℕ) → k < n + trailing → PairFits w (at k, earlier (directedValue X xs D) 1 k) (directedValue X xs D k))
+        → ((k : ℕ) → k < n + trailing → PairStepFits w (at k, earlier (directedValue X xs D) 1 k) (directedValue X xs D k))
         → n + trailing ≤ places
         → CanRun (pairWriter w) list start places
     pairs-can-run fits l = rw whole (can-run X xs D n all (paired-carries carries) trailing fits l)

@@ -1,35 +1,31 @@
 -- What the reference rows come to: `reference-rows` proves the claim of specs/ReferenceClaims.antt, from the lines of demand 3.
-use mathlib.Core.List.{List}
-use mathlib.Core.Path.{_≡_, refl, sym, ap, ap₂, subst, _∙_}
-use Prim.Native.Nat.{ℕ, zero, suc, _+_, _-_, _*_, _≤_, _<_, min, zero-le}
+use mathlib.Core.Path.{_≡_, sym, ap, ap₂, subst, _∙_}
+use Prim.Native.Nat.{ℕ, zero, suc, _+_, _-_, _≤_, _<_, min, zero-le}
 use native.Mathlib.Decide.{decLe}
 use native.Mathlib.Nat.{le-refl, not-suc-le-zero}
 use native.Mathlib.Numerals.{add-one}
 use native.Mathlib.Omega.{arith}
-use lib.IntN.{ℤ, pos, negsuc, negℤ, _+ℤ_, _-ℤ_, _*ℤ_, +ℤ-assoc, +ℤ-idr, +ℤ-negℤ-cancel}
-use lib.ListN.{length, getD}
+use lib.IntN.{ℤ, pos, negℤ, _+ℤ_, _-ℤ_, _*ℤ_, +ℤ-assoc, +ℤ-idr, +ℤ-negℤ-cancel}
+use lib.ListN.{getD}
 use lib.Signed.{_≤ℤ_, _<ℤ_, ≤ℤ-refl}
-use Rattle.planner.specs.Result.{Each, given}
+use Rattle.planner.specs.Result.{Each}
 use Rattle.planner.specs.declared.Move.{Move}
 use Rattle.planner.proofs.RefusalLaws.{Passes}
 use Rattle.planner.proofs.ResultLaws.{same-given}
 use Rattle.planner.proofs.Acceptance.{passed-accepted, third-passed}
-use Rattle.motion.specs.Sampling.{Motion, fourthOrder, thirdOrder}
+use Rattle.motion.specs.Sampling.{Motion}
 use Rattle.motion.specs.Tables.{heldPosition, referenceRow, FillsReference}
 use Rattle.motion.specs.ForceRows.Doubled.{earlier}
 use Rattle.motion.specs.Demand3.{Kept}
-use Rattle.motion.specs.ReferenceClaims.{ReferenceRows, ReferenceOf, ReferenceClaim}
+use Rattle.motion.specs.ReferenceClaims.{ReferenceOf, ReferenceClaim}
 use Rattle.motion.specs.Inner.Pairs.{pairs}
 use Rattle.motion.specs.declared.Sample.{Sample}
+use Rattle.motion.proofs.IntegerLaws.{doubled-sum}
 use Rattle.motion.proofs.FillLaws.{filled-passes, filled-places, filled-room, filled-rows, filled-at}
 use Rattle.motion.proofs.GrowthLaws.{grows, shrinks}
 use Rattle.motion.proofs.PairLaws.{exchanged}
 use Rattle.motion.proofs.RoundedValues.{withRounding}
 use Rattle.motion.proofs.Demand3.{sampled, fourth-kept, third-kept}
-
-doubled : (x : ℤ) → pos 2 *ℤ x ≡ x +ℤ x
-doubled (pos n) = ap pos (omega arith)
-doubled (negsuc n) = let twice : 2 * suc n ≡ suc (suc (n + n)) = omega arith in ap (λ (k : ℕ). negℤ (pos k)) twice
 
 -- values that keep the lines of demand 3, and their positions held
 module _ {m : Move} {N P : ℕ} {E : ℕ → ℤ} {at : ℕ → Sample} (kept : Kept m N P E at) where
@@ -81,7 +77,7 @@ module _ {m : Move} {N P : ℕ} {E : ℕ → ℤ} {at : ℕ → Sample} (kept : 
       sym (ap (λ (x : ℤ). x -ℤ velocity k) (held-next k (omega arith)) ∙ +ℤ-negℤ-cancel (held k) (velocity k)) in
       ap (λ (x : ℤ). held (suc k) +ℤ x) before
       ∙ sym (+ℤ-assoc (held (suc k)) (held (suc k)) (negℤ (velocity k)))
-      ∙ ap (λ (x : ℤ). x -ℤ velocity k) (sym (doubled (held (suc k))))
+      ∙ ap (λ (x : ℤ). x -ℤ velocity k) (sym (doubled-sum (held (suc k))))
       ∙ ap₂ (λ (i j : ℕ). pos 2 *ℤ at i .position -ℤ velocity j) here one
 
   last : pairs held (N + 1) ≡ pos 2 *ℤ at N .position
@@ -89,7 +85,7 @@ module _ {m : Move} {N P : ℕ} {E : ℕ → ℤ} {at : ℕ → Sample} (kept : 
   last =
       let here : min N N ≡ N = omega arith in
       let after : min (suc N) N ≡ N = omega arith in
-      ap (pairs held) (add-one N) ∙ ap₂ (λ (i j : ℕ). at i .position +ℤ at j .position) after here ∙ sym (doubled (at N .position))
+      ap (pairs held) (add-one N) ∙ ap₂ (λ (i j : ℕ). at i .position +ℤ at j .position) after here ∙ sym (doubled-sum (at N .position))
 
   -- what holds of 0 and of all velocities holds of the one before
   velocity-before : (Q : ℤ → Type 0) → Q (pos 0) → ((k : ℕ) → k ≤ N → Q (velocity k)) → (k : ℕ) → k ≤ N → Q (earlier velocity 1 k)

@@ -35,12 +35,19 @@ module _ {A : Type 0} (x : Motion) (own : List (Check ℕ)) (rows : ℕ) (row : 
   pub rule-fills : Fills x own rows row old ruleResult ruleTable
   rule-fills = record { outcome-is = refl; table-is = refl }
 
+-- a table of so many zeros
+abbrev zeroTable : ℕ → List ℤ
+zeroTable rows = replicate rows (pos 0)
+
+room-for : (rows : ℕ) → rows ≤ length (zeroTable rows)
+room-for rows = le-of-eq (sym (length-replicate rows (pos 0)))
+
 module _ (x : Motion) where
   abbrev pub rows : ℕ
   rows = x .samples + 1
 
   abbrev pub zeros : List ℤ
-  zeros = replicate rows (pos 0)
+  zeros = zeroTable rows
 
   abbrev pub rulePositions : Result ℕ ℕ
   rulePositions = ruleResult x [] rows (λ k. x .values k .position) zeros
@@ -53,7 +60,7 @@ module _ (x : Motion) where
   positions-fill = rule-fills x [] rows (λ k. x .values k .position) zeros
 
   pub room : rows ≤ length zeros
-  room = le-of-eq (sym (length-replicate rows (pos 0)))
+  room = room-for rows
 
 pub rule-demand-3 : (m : Move) → Accepted m → Demand3 m (ruleSample (fourthOrder m)) (positions (fourthOrder m))
 rule-demand-3 m h =
@@ -70,11 +77,8 @@ module _ (x : Motion) where
   abbrev referenceCount : ℕ
   referenceCount = x .samples + 2
 
-  abbrev blanks : List ℤ
-  blanks = replicate referenceCount (pos 0)
-
   abbrev pub references : List ℤ
-  references = ruleTable x [] referenceCount (referenceRow (x .samples) (x .values)) blanks
+  references = ruleTable x [] referenceCount (referenceRow (x .samples) (x .values)) (zeroTable referenceCount)
 
   abbrev pub RuleReference : (X : ℤ) → Type 0
   RuleReference X = ReferenceRows X (x .samples) (λ k. withRounding (x .values k)) references
@@ -82,10 +86,10 @@ module _ (x : Motion) where
   rule-reference : (m : Move) → ReferenceOf m x → Each Passes (x .planChecks) → RuleReference (m .displacement)
   unfolding FillsReference
   rule-reference m claim p =
-      let fill = rule-fills x [] referenceCount (referenceRow (x .samples) (x .values)) blanks in
-      let whole = filled-outcome p (le-of-eq (sym (length-replicate referenceCount (pos 0)))) tt fill in
-      claim _ (λ k l. rule-samples x k (sym (sampled x p l (rule-samples x k refl)))) blanks references referenceCount
-      (subst (λ o. Fills x [] referenceCount (referenceRow (x .samples) (x .values)) blanks o references) whole fill)
+      let fill = rule-fills x [] referenceCount (referenceRow (x .samples) (x .values)) (zeroTable referenceCount) in
+      let whole = filled-outcome p (room-for referenceCount) tt fill in
+      claim _ (λ k l. rule-samples x k (sym (sampled x p l (rule-samples x k refl)))) (zeroTable referenceCount) references referenceCount
+      (subst (λ o. Fills x [] referenceCount (referenceRow (x .samples) (x .values)) (zeroTable referenceCount) o references) whole fill)
 
 pub rule-reference-rows : (m : Move) → Accepted m → RuleReference (fourthOrder m) (m .displacement)
 rule-reference-rows m h = rule-reference (fourthOrder m) m (reference-rows m .fourth) (accepted-passes m h)

@@ -4,7 +4,7 @@ use mathlib.Core.Path.{_≡_, refl, sym, ap, _∙_}
 use Prim.Native.Nat.{ℕ, _+_, _≤_, _<_}
 use native.Mathlib.Omega.{arith}
 use lib.IntN.{ℤ}
-use lib.ListN.{length, take, drop, replicate, drop-of-length-le}
+use lib.ListN.{length, drop, replicate, drop-of-length-le}
 use Rattle.planner.specs.Intervals.{Intervals}
 use Rattle.planner.specs.Third.{ThirdIntervals}
 use Rattle.profile.specs.Profile.{segments, sevenSegments}
@@ -14,7 +14,7 @@ use Rattle.motion.specs.declared.segments.Segment.{Segment}
 use Rattle.motion.specs.declared.switched.Levels.{Levels}
 use Rattle.motion.specs.Inner.Runs.{Writer, CanRun, Ran}
 use Rattle.motion.specs.Inner.SwitchedLevels.{AreLevels}
-use Rattle.motion.specs.Inner.SegmentLists.{switchedList, IsDurations, AreThirdDurations, withTrailing, fourthSegments, thirdSegments, segmentsOf, SegmentAt}
+use Rattle.motion.specs.Inner.SegmentLists.{switchedList, IsDurations, AreThirdDurations, withTrailing, fourthSegments, thirdSegments, segmentsOf, firstEight, SegmentAt}
 use Rattle.motion.proofs.RunLaws.{Remaining, all-left, can-part, part-done, none-left}
 use Rattle.motion.proofs.ListedLaws.{directedList}
 use Rattle.motion.proofs.SegmentLaws.{in-front}
@@ -27,10 +27,6 @@ fourth-segments h = rw (h .p-is, h .q-is, h .r-is, h .s-is, h .trailing-is) refl
 pub sixteen : (d : Durations) → length (segmentsOf d) ≡ 16
 unfolding segments
 sixteen d = refl
-
--- the first eight of them, in the third order
-abbrev pub firstEight : Durations → List profile.Segment
-firstEight d = take 8 (segmentsOf d)
 
 pub third-segments :
     {t : ThirdIntervals} {trailing : ℕ} {d : Durations} → AreThirdDurations t trailing d → firstEight d ≡ withTrailing (thirdSegments t) trailing

@@ -7,5 +7,6 @@ pub mod Planned
 pub mod PlannedAxes
 pub mod Runs
 pub mod SegmentLists
+pub mod OrderRuns
 pub mod Pairs
 pub mod Rows

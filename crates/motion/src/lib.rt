@@ -158,7 +158,7 @@ pub fn fill_positions(m: Move, table: &mut [i64]) -> TableAnswer
     write_positions(table, m.displacement, plan)
 }
 
-// Fills a table with the reference rows of a move, 0 to N+1, for the feedback loop: each is the position there and the one before it, added.
+// Fills a table with the reference rows of a move, 0 to N+1, for the feedback loop: each is the position there plus the one before it.
 pub fn fill_reference(m: Move, table: &mut [i64]) -> TableAnswer
     ensures { λ r. ⌜ FillsReference (fourthOrder m) (now (table .entry)) (tableOutcome r) (now (table .exit)) ⌝ }
 {

@@ -1,4 +1,5 @@
-// The table of reference rows. A row is the position there and the one before it, added; so it is the position of a profile whose switched
-// value is the plan's there and the one before it, added. That profile is written with the loop of the position table.
+// The table of reference rows. A pair is a value plus the one before it. A row is the pair of two positions, and so the position of the
+// profile whose switched value is the plan's pairs: it is written with the loop of the position table. After the last segment the plan
+// is at rest and its position stays by itself, so nothing has to be held.
 pub(crate) mod store;
 pub(crate) mod table;

@@ -77,7 +77,7 @@ pub extern "C" fn nitswolan_fill_positions(m: Move, table: &mut [i64]) -> TableR
     table_result(motion::fill_positions(m, table))
 }
 
-// Fills a table with the reference rows of a move at samples 0 to N, for the feedback loop.
+// Fills a table with the reference rows of a move, 0 to N+1, for the feedback loop, in doubled units.
 #[no_mangle]
 pub extern "C" fn nitswolan_fill_reference(m: Move, table: &mut [i64]) -> TableResult
     ensures { λ r. ⌜ Answers tableFields (λ o. FillsReference (fourthOrder m) (now (table .entry)) o (now (table .exit))) r ⌝ }
@@ -117,7 +117,7 @@ pub extern "C" fn nitswolan_fill_positions_third(m: Move, table: &mut [i64]) -> 
     table_result(motion::fill_positions_third(m, table))
 }
 
-// Fills a table with the reference rows of a move in the third order at samples 0 to N.
+// Fills a table with the reference rows of a move in the third order, 0 to N+1, in doubled units.
 #[no_mangle]
 pub extern "C" fn nitswolan_fill_reference_third(m: Move, table: &mut [i64]) -> TableResult
     ensures { λ r. ⌜ Answers tableFields (λ o. FillsReference (thirdOrder m) (now (table .entry)) o (now (table .exit))) r ⌝ }

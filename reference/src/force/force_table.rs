@@ -2,11 +2,8 @@
 
 use super::{Coefficients, Doubled, Drive, Machine};
 use crate::planner::{Move, Order};
-use crate::profile::{Profile, Segment, TableAnswer};
+use crate::profile::{Profile, Segment, TableAnswer, MORE_ROWS};
 use std::iter;
-
-/// The rows are 0 to N+1: two more than N.
-const MORE_ROWS: u64 = 2;
 
 /// Row k has the snap of sample k-2: two rows come before that of sample 0.
 const BEFORE: Segment = Segment {

@@ -1,10 +1,7 @@
 //! The table of reference rows for the feedback loop (document 02, request 4).
 
-use super::{Profile, TableAnswer};
+use super::{Profile, TableAnswer, MORE_ROWS};
 use crate::planner::{Move, Order};
-
-/// The rows are 0 to N+1: two more than N.
-const MORE_ROWS: u64 = 2;
 
 /// Writes the reference rows 0 to N+1 and keeps every later place, or writes
 /// nothing and refuses.

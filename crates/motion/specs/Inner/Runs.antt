@@ -56,3 +56,8 @@ module _ {S A : Type 0} (w : Writer S A) where
   pub record Ran (xs : List ℤ) (s : S) (old new : List A) (end : S) : Type 0 where
     pub table-is : new ≡ stored xs s old
     pub end-is : end ≡ after xs s
+
+  -- The run was made, whatever is carried along after it.
+  pub record RanThrough (xs : List ℤ) (s : S) (old new : List A) : Type 0 where
+    pub end : S
+    pub ran : Ran xs s old new end

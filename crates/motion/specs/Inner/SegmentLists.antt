@@ -3,7 +3,7 @@ use mathlib.Core.List.{List, [], _∷_, _++_}
 use mathlib.Core.Path.{_≡_}
 use Prim.Native.Nat.{ℕ, _+_, _-_}
 use lib.IntN.{ℤ}
-use lib.ListN.{drop, replicate}
+use lib.ListN.{take, drop, replicate}
 use Rattle.planner.specs.Intervals as durations
 use Rattle.planner.specs.Intervals.{Intervals}
 use Rattle.planner.specs.Third.{ThirdIntervals}
@@ -44,6 +44,10 @@ thirdSegments t = sevenSegments (t .b) (t .c) (t .e)
 
 abbrev pub segmentsOf : Durations → List profile.Segment
 segmentsOf d = withTrailing (segments (d .p) (d .q) (d .r) (d .s)) (d .trailing)
+
+-- In the third order.
+abbrev pub firstEight : Durations → List profile.Segment
+firstEight d = take 8 (segmentsOf d)
 
 -- g is segment i of the list, with its level.
 pub record SegmentAt (xs : List profile.Segment) (levels : Levels) (i : ℕ) (g : Segment) : Type 0 where

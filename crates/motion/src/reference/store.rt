@@ -4,7 +4,8 @@ use crate::state::State;
 use crate::third::store::store_with_jerk;
 ghost use lib.ListN.{replicate};
 ghost use Rattle.motion.specs.Inner.Runs.{CanRun, Ran};
-ghost use Rattle.motion.specs.Inner.Pairs.{PairsFit, ArePairs, orderRun, pairRun, pairIn};
+ghost use Rattle.motion.specs.Inner.OrderRuns.{orderRun};
+ghost use Rattle.motion.specs.Inner.Pairs.{PairsFit, ArePairs, pairRun, pairIn};
 
 // The sums of the pairs, and the plan's value one sample earlier.
 pub(crate) struct Paired {
@@ -28,7 +29,7 @@ fn pairs_of(level: i64, before: i64) -> SegmentPairs
     }
 }
 
-// The value that holds is the snap, or in the third order the jerk.
+// Stores a run of samples with one level: it is the snap, or in the third order the jerk.
 fn store_level(table: &mut [i64], third: bool, count: u64, level: i64, state: State) -> State
     requires { do ⌜ CanRun (orderRun third .writer) (replicate count level) (orderRun third .carried state) (← ⟦table.len()⟧) ⌝ }
     ensures { λ r. ⌜ Ran (orderRun third .writer) (replicate count level) (orderRun third .carried state) (now (table .entry)) (now (table .exit)) (orderRun third .carried r) ⌝ }

@@ -21,8 +21,9 @@ ghost use Rattle.planner.specs.Outcome.{intervalsIn};
 ghost use Rattle.motion.specs.Sampling.{valuesAt};
 ghost use Rattle.motion.specs.Tables.{referenceRow};
 ghost use Rattle.motion.specs.Answer.{tableOutcome};
-ghost use Rattle.motion.specs.Inner.Runs.{CanRun};
-ghost use Rattle.motion.specs.Inner.Pairs.{orderRun, listIn, pairRun, pairedRest, RanThrough};
+ghost use Rattle.motion.specs.Inner.Runs.{CanRun, RanThrough};
+ghost use Rattle.motion.specs.Inner.OrderRuns.{orderRun};
+ghost use Rattle.motion.specs.Inner.Pairs.{listIn, pairRun, pairedRest};
 ghost use Rattle.motion.specs.Inner.Planned.{PlanInRange, samplesIn, ThirdPlanInRange, thirdSamplesIn, thirdValuesIn, WritesRows};
 
 // The fifteen segments or the seven, and the one of the rows after them.

@@ -32,10 +32,10 @@ module _ (x : ℤ) (h : SFits w64 x) where
   fraction-is = rw (toZ-ofZ h) (toZ-ofZ (small-fits (fraction x) (omega (arith, fraction-size x))))
 
   -- each with a small number added
-  quotient-step : (y : ℤ) → natAbs y ≤ 2 ^ 59 → SFits w64 (quotientRead +ℤ y)
+  quotient-step : (y : ℤ) → natAbs y ≤ 2 ^ 60 → SFits w64 (quotientRead +ℤ y)
   quotient-step y k = rw quotient-is (sum-fits (quotient x) y (omega (arith, quotient-size x h)) k)
 
-  fraction-step : (y : ℤ) → natAbs y ≤ 2 ^ 59 → SFits w64 (fractionRead +ℤ y)
+  fraction-step : (y : ℤ) → natAbs y ≤ 2 ^ 60 → SFits w64 (fractionRead +ℤ y)
   fraction-step y k = rw fraction-is (sum-fits (fraction x) y (omega (arith, fraction-size x)) k)
 
 -- a count and a remainder that fit are read back as they are

@@ -7,7 +7,8 @@ use mir.Syntax.{w64}
 use mir.Val.{toZ, ofZ}
 use mir.Facts.{toZ-ofZ}
 use lib.IntN.{_+ℤ_}
-use Rattle.motion.specs.Inner.Pairs.{ArePairs, orderRun}
+use Rattle.motion.specs.Inner.OrderRuns.{orderRun}
+use Rattle.motion.specs.Inner.Pairs.{ArePairs}
 use Rattle.motion.proofs.RunLaws.{no-run}
 use Rattle.motion.proofs.PairRuns.{first-fits, can-first, can-others, ran-pairs}
 use Rattle.motion.proofs.reference.store.store_pairs.Statement.{statement}
@@ -81,7 +82,8 @@ returns-2 c =
     let s = f .before .before .before .before in
     let d = s .before .before in
     rw (back s)
-    (ran-pairs _ _ (d .args .count) _ _ (some s) (first-is (f .before)) (others-are e) (f .store-level .ensures) (c .before .store-level2 .ensures))
+    (ran-pairs _ _ (d .args .count) _ _ (some s) (first-is (f .before)) (others-are e) (f .store-level .ensures)
+    (c .before .store-level2 .ensures))
 
 pub store-pairs-spec : {M : Type 1} → statement M
 store-pairs-spec =

@@ -1,12 +1,11 @@
 -- `fill_pairs` meets its contract. The loop's invariant: the segments that are left come to the same as all of them.
-use mathlib.Core.Path.{_≡_, ap, _∙_}
 use Prim.Native.Nat.{_-_, _<_}
 use native.Mathlib.Omega.{arith}
 use mir.Syntax.{w64}
 use mir.Facts.{toZ-ofZ}
-use lib.ListN.{length}
 use Rattle.motion.specs.Inner.Runs.{Ran}
-use Rattle.motion.specs.Inner.Pairs.{orderRun, listIn, pairRun, pairIn, pairedRest}
+use Rattle.motion.specs.Inner.OrderRuns.{orderRun}
+use Rattle.motion.specs.Inner.Pairs.{listIn, pairRun, pairIn, pairedRest}
 use Rattle.motion.specs.Inner.SegmentLists.{SegmentAt}
 use Rattle.motion.proofs.RunLaws.{all-left, ran-length}
 use Rattle.motion.proofs.SegmentRuns.{SegmentsLeft, segment-can-run, next-segment, all-ran}
@@ -42,7 +41,9 @@ next :
     (c : tie.After-segment-at Inv-loop μ-loop)
     → let a = c .before .before .before .before .before .args in
     SegmentAt (orderRun (a .third) .segments (a .durations)) (a .levels) (c .before .before .loop .i) (c .segment-at .result)
-next c = let a = c .before .before .before .before .before .args in segment-of (a .third) (a .durations) (number (c .before)) (c .segment-at .ensures)
+next c =
+    let a = c .before .before .before .before .before .args in
+    segment-of (a .third) (a .durations) (number (c .before)) (c .segment-at .ensures)
 
 store-pairs-requires : tie.Need-store-pairs-requires Inv-loop μ-loop
 store-pairs-requires c κs =

@@ -59,4 +59,5 @@ returns-2 c =
 pub write-reference-spec : {M : Type 1} → statement M
 write-reference-spec =
     tie.close
-    (tie.spec samples-in-plan-requires add-rows returns durations-of-requires levels-of-requires fill-pairs-requires same-length returns-2)
+    (tie.spec samples-in-plan-requires add-rows returns durations-of-requires
+    levels-of-requires fill-pairs-requires same-length returns-2)

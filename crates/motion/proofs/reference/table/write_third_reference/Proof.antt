@@ -59,4 +59,5 @@ returns-2 c =
 pub write-third-reference-spec : {M : Type 1} → statement M
 write-third-reference-spec =
     tie.close
-    (tie.spec samples-in-third-requires add-rows returns third-durations-requires levels-of-requires fill-pairs-requires same-length returns-2)
+    (tie.spec samples-in-third-requires add-rows returns third-durations-requires
+    levels-of-requires fill-pairs-requires same-length returns-2)

@@ -7,10 +7,10 @@ use mir.Facts.{toZ-ofZ}
 use Rattle.motion.specs.Inner.SwitchedLevels.{AreLevels}
 use Rattle.motion.specs.Inner.Steps.{sumsIn}
 use Rattle.motion.specs.Inner.Runs.{thirdWriter, Ran}
-use Rattle.motion.specs.Inner.SegmentLists.{SegmentAt}
+use Rattle.motion.specs.Inner.SegmentLists.{firstEight, SegmentAt}
 use Rattle.motion.proofs.ThirdStates.{jerk-small}
 use Rattle.motion.proofs.RunLaws.{ran-length}
-use Rattle.motion.proofs.SegmentRuns.{firstEight, third-segments, eight, in-eight, listFrom, SegmentsLeft, first-segment, plan-ran, segment-can-run, next-segment, all-ran}
+use Rattle.motion.proofs.SegmentRuns.{third-segments, eight, in-eight, listFrom, SegmentsLeft, first-segment, plan-ran, segment-can-run, next-segment, all-ran}
 use Rattle.motion.proofs.PositionLaws.{third-can-run, third-positions-in}
 use Rattle.motion.proofs.third.table.fill_third.Statement.{statement}
 use Rattle.motion.proofs.third.table.fill_third.Tie as tie
