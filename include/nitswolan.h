@@ -12,8 +12,8 @@
  * one overlaps what another is lent.
  *
  * A table or a text of length 0 may be NULL; any other pointer is valid for its length and aligned as its type asks. A call takes at most
- * 512 bytes of stack for a move, 4 KiB for a set of axes and 24 KiB for a sheet, besides its answer. From the C library only memcpy,
- * memmove and memset are used. The archive is for x86-64 Linux.
+ * 512 bytes of stack for a move, 4 KiB for a set of axes and 24 KiB for a sheet, besides its answer; NITSWOLAN_STACK_PLAN_MOVE and so on
+ * have the figure of each function. From the C library only memcpy, memmove and memset are used. The archive is for x86-64 Linux.
  *
  * nitswolan_fill_force needs the floating-point state that a C program starts with: rounding to nearest, subnormals kept, no exception
  * trapped. A program that is linked with -ffast-math or changes this state gets other forces, or a signal. The others use no floats.
@@ -47,6 +47,22 @@ extern "C" {
 #define NITSWOLAN_MOST_SETS 16
 #define NITSWOLAN_MOST_MOVES 256
 #define NITSWOLAN_REPORT_BYTES 32768
+
+/* The stack that a call of each function takes at most, in bytes, with its arguments and besides its answer: as measured, rounded up to a
+ * multiple of 64. No function calls itself, directly or by way of others, so the depth of calls does not grow with what is sent. */
+#define NITSWOLAN_STACK_PLAN_MOVE 320
+#define NITSWOLAN_STACK_SAMPLE_MOVE 384
+#define NITSWOLAN_STACK_FILL_POSITIONS 384
+#define NITSWOLAN_STACK_FILL_REFERENCE 384
+#define NITSWOLAN_STACK_FILL_FORCE 512
+#define NITSWOLAN_STACK_PLAN_AXES 2176
+#define NITSWOLAN_STACK_SAMPLE_AXES 3968
+#define NITSWOLAN_STACK_PLAN_THIRD 192
+#define NITSWOLAN_STACK_SAMPLE_THIRD 256
+#define NITSWOLAN_STACK_FILL_POSITIONS_THIRD 256
+#define NITSWOLAN_STACK_FILL_REFERENCE_THIRD 256
+#define NITSWOLAN_STACK_READ_SHEET 18112
+#define NITSWOLAN_STACK_REPORT 22976
 
 /* Refusals. */
 enum {

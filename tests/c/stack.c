@@ -1,21 +1,20 @@
-/* How much stack the entries take, with their arguments but without their answers: each is called in a thread on a stack of known bytes.
+/* How much stack each entry takes, with its arguments but without its answer: it is called in a thread on a stack of known bytes.
  * Exits 1 if one takes more than the header says. */
 #define _POSIX_C_SOURCE 200809L
 #include "raw_entries.h"
+#include "stack.h"
 
 #include <pthread.h>
 #include <stdio.h>
 #include <stdlib.h>
 #include <string.h>
 
-enum { STACK = 1 << 18, UNTOUCHED = 0xA5, FOR_A_MOVE = 512, FOR_A_SET = 4 * 1024, FOR_A_SHEET = 24 * 1024 };
+enum { STACK = 1 << 18, UNTOUCHED = 0xA5 };
 
-/* The entries are numbered: first those for a move, then those for a set of axes, then those for a sheet. */
-enum { OF_A_MOVE = 0, OF_A_SET = 9, OF_A_SHEET = 11, ENTRIES = 13 };
-
-/* What the thread is to call, and the address from which its stack is measured. */
+/* What the thread is to call, the address from which its stack is measured, and the most that each entry took so far. */
 typedef struct {
   int entry;
+  size_t most[ENTRIES];
   const raw_axes *axes;
   const char *text;
   const unsigned char *frame;
@@ -67,19 +66,19 @@ static size_t stack_of(work *todo, unsigned char *stack) {
   return (size_t)(todo->frame - (stack + untouched));
 }
 
-/* The most that the entries from `first` up to `end` take, or the whole stack if one could not be measured. Those for a move answer with
- * their refusal first and must not refuse: less stack would be measured than a full table takes. */
-static size_t most_of(work *todo, unsigned char *stack, int first, int end) {
-  size_t most = 0;
+/* Calls the entries from `first` up to `end`; one that could not be measured takes the whole stack. Those for a move answer with their
+ * refusal first and must not refuse: less stack would be measured than a full table takes. */
+static void measure(work *todo, unsigned char *stack, int first, int end) {
   for (todo->entry = first; todo->entry < end; todo->entry++) {
     call(todo); /* so that no name is bound late, on the measured stack */
-    const size_t taken = stack_of(todo, stack);
+    size_t taken = stack_of(todo, stack);
     if (taken == 0 || (first == OF_A_MOVE && todo->answer[0] != 0)) {
-      return STACK;
+      taken = STACK;
     }
-    most = taken > most ? taken : most;
+    if (taken > todo->most[todo->entry]) {
+      todo->most[todo->entry] = taken;
+    }
   }
-  return most;
 }
 
 /* Eight axes, the last as given and the others shorter. */
@@ -93,20 +92,17 @@ static raw_axes axes_ending_in(raw_move last) {
   return axes;
 }
 
-/* The most that planning and sampling a set take, over seven axes raised to the last, the last refused, and the last at rest. */
-static size_t most_of_sets(work *todo, unsigned char *stack) {
+/* Planning and sampling a set, over seven axes raised to the last, the last refused, and the last at rest. */
+static void measure_sets(work *todo, unsigned char *stack) {
   const raw_axes sets[] = {
     axes_ending_in((raw_move){{4092, G, G, G, G}}),
     axes_ending_in((raw_move){{4093, G, G, G, G}}),
     axes_ending_in((raw_move){{0, G, G, G, G}}),
   };
-  size_t most = 0;
   for (size_t k = 0; k < sizeof sets / sizeof *sets; k++) {
     todo->axes = &sets[k];
-    const size_t taken = most_of(todo, stack, OF_A_SET, OF_A_SHEET);
-    most = taken > most ? taken : most;
+    measure(todo, stack, OF_A_SET, OF_A_SHEET);
   }
-  return most;
 }
 
 /* 7,431 bytes, the longest sheet: 16 sets and 256 moves, every number with as many digits as it may have. */
@@ -124,33 +120,33 @@ static const char *longest_sheet(void) {
   return text;
 }
 
-/* The most that reading and reporting take, over sheets with plans, with refused moves, and malformed ones. */
-static size_t most_of_sheets(work *todo, unsigned char *stack) {
+/* Reading and reporting, over sheets with plans, with refused moves, and malformed ones. */
+static void measure_sheets(work *todo, unsigned char *stack) {
   const char *texts[] = {
     "1\n1099511627776 1099511627776 1099511627776 1099511627776\n2\n-4091 1\n-4092 1\n",
     longest_sheet(),
     "1\n1 1 1 1\n1\n-0 1\n",
   };
-  size_t most = 0;
   for (size_t k = 0; k < sizeof texts / sizeof *texts; k++) {
     todo->text = texts[k];
-    const size_t taken = most_of(todo, stack, OF_A_SHEET, ENTRIES);
-    most = taken > most ? taken : most;
+    measure(todo, stack, OF_A_SHEET, ENTRIES);
   }
-  return most;
 }
 
 int main(void) {
   static work todo;
   void *stack = NULL;
+  int failed = 0;
   if (posix_memalign(&stack, 4096, STACK) != 0) {
     return 1;
   }
-  const size_t move = most_of(&todo, stack, OF_A_MOVE, OF_A_SET);
-  const size_t set = most_of_sets(&todo, stack);
-  const size_t sheet = most_of_sheets(&todo, stack);
-  printf("stack: %zu bytes for a move, at most %d; %zu for a set of axes, at most %d; %zu for a sheet, at most %d\n", move, FOR_A_MOVE,
-         set, FOR_A_SET, sheet, FOR_A_SHEET);
+  measure(&todo, stack, OF_A_MOVE, OF_A_SET);
+  measure_sets(&todo, stack);
+  measure_sheets(&todo, stack);
+  for (int k = 0; k < ENTRIES; k++) {
+    printf("stack: %s takes %zu bytes, at most %zu\n", stack_said[k].name, todo.most[k], stack_said[k].most);
+    failed |= todo.most[k] > stack_said[k].most;
+  }
   free(stack);
-  return move > FOR_A_MOVE || set > FOR_A_SET || sheet > FOR_A_SHEET;
+  return failed;
 }

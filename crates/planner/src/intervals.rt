@@ -1,8 +1,9 @@
 // The intervals of a move in range. An interval above 4,096 may come out smaller than the rule's,
 // but never below 4,097: such a move is refused either way.
+use crate::extremes::larger;
 use crate::search::least_interval;
 ghost use mathlib.Core.Path.{_≡_};
-ghost use Prim.Native.Nat.{_^_, _≤_, max};
+ghost use Prim.Native.Nat.{_^_, _≤_};
 ghost use Rattle.planner.specs.Intervals.{interval-a, interval-b, interval-c, interval-e};
 ghost use Rattle.planner.specs.Claims.{BoundInRange};
 ghost use Rattle.planner.specs.Inner.Capped.{Agrees, Carried, Figures, LaterAgree, IntervalsAgree, found};
@@ -17,12 +18,6 @@ pub(crate) struct Intervals {
     pub e: u64,
 }
 
-pub(crate) fn larger(x: u64, y: u64) -> u64
-    ensures { λ r. ⌜ r ≡ max x y ⌝ }
-{
-    if x < y { y } else { x }
-}
-
 // The bound that the next interval goes by: J1, A1 or V1.
 fn carried(bound: u64, k: u64, n: u64) -> u64
     requires { ⌜ BoundInRange bound × BoundInRange k × (1 ≤ n) × (n ≤ 8194) ⌝ }
@@ -33,7 +28,7 @@ fn carried(bound: u64, k: u64, n: u64) -> u64
 }
 
 // Each search looks no further than the one before it found, and no lower than the interval may be. The
-// rule's last search stands first: its product is the cheapest, and it has the widest span.
+// rule's last search stands first: it is the cheapest, and the spans of the others are short after it.
 fn interval_a(w: u64, v: u64, acc: u64, j: u64, s: u64) -> u64
     requires { ⌜ Figures w v acc j s ⌝ }
     ensures { λ r. ⌜ Agrees 4097 4097 r (interval-a w v acc j s) ⌝ }

@@ -3,6 +3,7 @@
 mod axes;
 mod bounds;
 mod division;
+mod extremes;
 mod figures;
 mod in_range;
 mod intervals;

@@ -1,4 +1,6 @@
 // The search for the least interval that reaches a target.
+use crate::extremes::larger;
+use crate::extremes::smaller;
 ghost use mathlib.Core.Path.{_≡_};
 ghost use Prim.Native.Nat.{_^_, _≤_, min, max};
 ghost use Rattle.planner.specs.Least.{least};
@@ -23,23 +25,31 @@ fn search(u: u64, d: u64, t: u64, lo: u64, hi: u64) -> u64
     requires { ⌜ SearchArgs 4097 u d lo hi ⌝ }
     ensures { λ r. ⌜ LeastWithin t (growth u d) lo hi r ⌝ }
 {
-    if lo == hi {
-        return lo;
-    }
-    let mid = (lo + hi) / 2;
-    let reached = mid * power(u + mid, d);
-    if reached < t {
-        search(u, d, t, mid + 1, hi)
-    } else {
-        search(u, d, t, lo, mid)
+    let mut from = lo;
+    let mut to = hi;
+    loop {
+        if from == to {
+            break from;
+        }
+        let mid = (from + to) / 2;
+        let reached = mid * power(u + mid, d);
+        if reached < t {
+            from = mid + 1;
+        } else {
+            to = mid;
+        }
     }
 }
 
 // The least n from lo on with k·n·(u+n)^d ≥ t, or hi where there is none below it. One division takes
-// the bound k to the other side, so that no product passes 64 bits.
+// the bound k to the other side, so that no product passes 64 bits. The quotient reaches itself, so
+// the span ends there at the latest; where d = 0 nothing before its end reaches the quotient.
 pub(crate) fn least_interval(k: u64, u: u64, d: u64, t: u64, lo: u64, hi: u64) -> u64
     requires { ⌜ ReachArgs 4097 k u d t lo hi ⌝ }
     ensures { λ r. ⌜ r ≡ max lo (min hi (least t (scaled k u d))) ⌝ }
 {
-    search(u, d, (t + (k - 1)) / k, lo, hi)
+    let quotient = (t + (k - 1)) / k;
+    let to = smaller(hi, larger(lo, quotient));
+    let from = if d == 0 { to } else { lo };
+    search(u, d, quotient, from, to)
 }

@@ -86,7 +86,7 @@ signed-length (pos n) = omega arith
 signed-length (negsuc n) = omega arith
 
 -- And a number of at most k digits is below 10^k.
-some-digit : (n : ℕ) → 0 < length (decimal n)
+pub some-digit : (n : ℕ) → 0 < length (decimal n)
 some-digit =
     by-digits (λ n. 0 < length (decimal n)) (λ n h. rw (decimal-digit n h) (omega arith))
     (λ n h ih. rw (decimal-more n h, length-append) (omega arith))

@@ -1,5 +1,6 @@
 -- The decimal of a number.
 pub mod DecimalLaws
+pub mod DigitLaws
 -- Texts, and formats: what is written and read as one.
 pub mod TextLaws
 pub mod FormatLaws

@@ -18,18 +18,24 @@ pub(crate) fn put_text(out: &mut [u8; REPORT_BYTES], at: usize, text: &[u8]) -> 
     at + i
 }
 
-// Puts the decimal of n, digit by digit as the definition has it.
+// 2^64−1 has 20 digits.
+const MOST_DIGITS: usize = 20;
+
+// Puts the decimal of n. Its last digit is found first, so the digits are gathered from the end on.
 pub(crate) fn put_number(out: &mut [u8; REPORT_BYTES], at: usize, n: u64) -> usize
     requires { ⌜ Room at (decimal n) ⌝ }
     ensures { λ r. ⌜ Puts (now (out .entry)) at (decimal n) r (now (out .exit)) ⌝ }
 {
-    if n < 10 {
-        out[at] = b'0' + n as u8;
-        return at + 1;
+    let mut digits = [0u8; MOST_DIGITS];
+    let mut first = MOST_DIGITS - 1;
+    let mut left = n;
+    while 10 <= left {
+        digits[first] = b'0' + (left % 10) as u8;
+        left = left / 10;
+        first -= 1;
     }
-    let last = put_number(out, at, n / 10);
-    out[last] = b'0' + (n % 10) as u8;
-    last + 1
+    digits[first] = b'0' + left as u8;
+    put_text(out, at, &digits[first..])
 }
 
 // Puts a word and its number.
