@@ -11,9 +11,9 @@
  * in a set the first axis that is refused before those after it. Calls may run beside each other as long as no table or report buffer of
  * one overlaps what another is lent.
  *
- * A table or a text of length 0 may be NULL; any other pointer is valid for its length and aligned as its type asks. A call takes at most
- * 512 bytes of stack for a move, 4 KiB for a set of axes and 24 KiB for a sheet, besides its answer; NITSWOLAN_STACK_PLAN_MOVE and so on
- * have the figure of each function. From the C library only memcpy, memmove and memset are used. The archive is for x86-64 Linux.
+ * A table or a text of length 0 may be NULL; any other pointer is valid for its length and aligned as its type asks. The stack that each
+ * function takes stands below (NITSWOLAN_STACK_PLAN_MOVE and so on): at most 512 bytes for a move, 4 KiB for a set of axes and 24 KiB for a
+ * sheet, besides the answer. From the C library only memcpy, memmove and memset are used. The archive is for x86-64 Linux.
  *
  * nitswolan_fill_force needs the floating-point state that a C program starts with: rounding to nearest, subnormals kept, no exception
  * trapped. A program that is linked with -ffast-math or changes this state gets other forces, or a signal. The others use no floats.
@@ -48,21 +48,23 @@ extern "C" {
 #define NITSWOLAN_MOST_MOVES 256
 #define NITSWOLAN_REPORT_BYTES 32768
 
-/* The stack that a call of each function takes at most, in bytes, with its arguments and besides its answer: as measured, rounded up to a
- * multiple of 64. No function calls itself, directly or by way of others, so the depth of calls does not grow with what is sent. */
-#define NITSWOLAN_STACK_PLAN_MOVE 320
-#define NITSWOLAN_STACK_SAMPLE_MOVE 384
+/* The stack that a call of each function takes at most, in bytes: its arguments, its return address and all that it calls, besides its
+ * answer. As measured, rounded up to a multiple of 64. No function calls itself, directly or by way of others, so the depth of calls does
+ * not grow with what is sent. What memcpy, memmove and memset take themselves is the C library's; where a program binds their names only
+ * at the first call, that call takes more (link with -z now, or call once on a larger stack). */
+#define NITSWOLAN_STACK_PLAN_MOVE 256
+#define NITSWOLAN_STACK_SAMPLE_MOVE 320
 #define NITSWOLAN_STACK_FILL_POSITIONS 384
 #define NITSWOLAN_STACK_FILL_REFERENCE 384
-#define NITSWOLAN_STACK_FILL_FORCE 512
+#define NITSWOLAN_STACK_FILL_FORCE 448
 #define NITSWOLAN_STACK_PLAN_AXES 2176
 #define NITSWOLAN_STACK_SAMPLE_AXES 3968
 #define NITSWOLAN_STACK_PLAN_THIRD 192
-#define NITSWOLAN_STACK_SAMPLE_THIRD 256
+#define NITSWOLAN_STACK_SAMPLE_THIRD 192
 #define NITSWOLAN_STACK_FILL_POSITIONS_THIRD 256
 #define NITSWOLAN_STACK_FILL_REFERENCE_THIRD 256
 #define NITSWOLAN_STACK_READ_SHEET 18112
-#define NITSWOLAN_STACK_REPORT 22976
+#define NITSWOLAN_STACK_REPORT 22912
 
 /* Refusals. */
 enum {

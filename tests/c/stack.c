@@ -1,5 +1,5 @@
 /* How much stack each entry takes, with its arguments but without its answer: it is called in a thread on a stack of known bytes.
- * Exits 1 if one takes more than the header says. */
+ * Exits 1 unless that is the header's figure, which is rounded up. */
 #define _POSIX_C_SOURCE 200809L
 #include "raw_entries.h"
 #include "stack.h"
@@ -9,28 +9,30 @@
 #include <stdlib.h>
 #include <string.h>
 
-enum { STACK = 1 << 18, UNTOUCHED = 0xA5 };
+enum { STACK = 1 << 18, UNTOUCHED = 0xA5, ROUNDED_TO = 64 };
 
-/* What the thread is to call, the address from which its stack is measured, and the most that each entry took so far. */
+/* What the thread is to call, the stack pointer before the call's arguments, and the most that each entry took so far. */
 typedef struct {
   int entry;
   size_t most[ENTRIES];
   const raw_axes *axes;
   const char *text;
-  const unsigned char *frame;
+  const unsigned char *before;
   uint64_t answer[SHEET_SIZE / 8];
   int64_t table[4098];
   double forces[4098];
   uint8_t report[REPORT_SIZE];
 } work;
 
+static const raw_move move = {{4092, G, G, G, G}};
+static const raw_move longer = {{4094, G, G, G, G}}; /* in third order it takes 4,096 samples, too */
+static const raw_machine machine = {{1, 1, 1, 1, 1, 1}};
+
+/* Built without sibling calls and shrink-wrapping (.ci/header), so that only a call's arguments move the stack pointer in it. */
 static void *call(void *given) {
   work *todo = given;
-  const raw_move move = {{4092, G, G, G, G}};
-  const raw_move longer = {{4094, G, G, G, G}}; /* in third order it takes 4,096 samples, too */
-  const raw_machine machine = {{1, 1, 1, 1, 1, 1}};
   const uint8_t *text = (const uint8_t *)todo->text;
-  todo->frame = __builtin_frame_address(0);
+  __asm__ volatile("mov %%rsp, %0" : "=m"(todo->before));
   switch (todo->entry) {
   case 0: return nitswolan_plan_move(todo->answer, move);
   case 1: return nitswolan_sample_move(todo->answer, move, 4096);
@@ -49,7 +51,7 @@ static void *call(void *given) {
   return NULL;
 }
 
-/* The bytes of stack below the caller's frame, or 0 if no thread could be had. */
+/* The bytes of stack that the call took, or 0 if no thread could be had. */
 static size_t stack_of(work *todo, unsigned char *stack) {
   pthread_attr_t attributes;
   pthread_t thread;
@@ -63,7 +65,7 @@ static size_t stack_of(work *todo, unsigned char *stack) {
   while (stack[untouched] == UNTOUCHED) {
     untouched++;
   }
-  return (size_t)(todo->frame - (stack + untouched));
+  return (size_t)(todo->before - (stack + untouched));
 }
 
 /* Calls the entries from `first` up to `end`; one that could not be measured takes the whole stack. Those for a move answer with their
@@ -144,8 +146,9 @@ int main(void) {
   measure_sets(&todo, stack);
   measure_sheets(&todo, stack);
   for (int k = 0; k < ENTRIES; k++) {
-    printf("stack: %s takes %zu bytes, at most %zu\n", stack_said[k].name, todo.most[k], stack_said[k].most);
-    failed |= todo.most[k] > stack_said[k].most;
+    const entry_stack said = declared_stack[k];
+    printf("stack: %s takes %zu bytes, by the header at most %zu\n", said.name, todo.most[k], said.most);
+    failed |= (todo.most[k] + ROUNDED_TO - 1) / ROUNDED_TO * ROUNDED_TO != said.most;
   }
   free(stack);
   return failed;

@@ -12,6 +12,6 @@ typedef struct {
   size_t most;
 } entry_stack;
 
-extern const entry_stack stack_said[ENTRIES];
+extern const entry_stack declared_stack[ENTRIES];
 
 #endif

@@ -3,7 +3,7 @@
 
 #include "nitswolan.h"
 
-const entry_stack stack_said[ENTRIES] = {
+const entry_stack declared_stack[ENTRIES] = {
   {"nitswolan_plan_move", NITSWOLAN_STACK_PLAN_MOVE},
   {"nitswolan_sample_move", NITSWOLAN_STACK_SAMPLE_MOVE},
   {"nitswolan_fill_positions", NITSWOLAN_STACK_FILL_POSITIONS},

@@ -1,13 +1,12 @@
 -- Laws of n·(u+n)^d: small powers, bounds, growth with n, and what a search finds for it.
-use mathlib.Core.Logic.{_⊎_, inl, inr}
 use mathlib.Core.Path.{_≡_, ap, subst, _∙_}
-use Prim.Native.Nat.{ℕ, zero, suc, _+_, _-_, _*_, _/_, _^_, _≤_, _<_, min, max}
-use native.Mathlib.Nat.{le-trans, mul-le-mul, mul-le-mul-left, pow-zero, pow-suc, pow-le-pow-left, pow-le-pow-right, one-le-pow, one-mul, mul-one, mul-comm, le-mul-of-pos-right}
+use Prim.Native.Nat.{ℕ, zero, suc, _+_, _-_, _*_, _/_, _^_, _≤_, min, max}
+use native.Mathlib.Nat.{le-trans, mul-le-mul, mul-le-mul-left, pow-zero, pow-suc, pow-le-pow-left, pow-le-pow-right, one-le-pow, one-mul, mul-comm, le-mul-of-pos-right}
 use native.Mathlib.Omega.{arith}
 use Rattle.planner.specs.Least.{least}
 use Rattle.planner.specs.Inner.Search.{growth, scaled, LeastWithin}
 use Rattle.planner.proofs.LeastLaws.{least-is}
-use Rattle.planner.proofs.SpanLaws.{Rising, within-least, within-from, within-target}
+use Rattle.planner.proofs.SpanLaws.{Rising, within-least}
 use Rattle.planner.proofs.Ceiling.{within-scaled}
 
 pub pow-one : (m : ℕ) → m ^ 1 ≡ m
@@ -26,28 +25,9 @@ pow-bound {m} {d} hm hd = le-trans (pow-le-pow-left hm d) (pow-le-pow-right (ome
 pub growth-rising : (u d : ℕ) → Rising (growth u d)
 growth-rising u d m n h = mul-le-mul h (pow-le-pow-left (omega arith) d)
 
-growth-at-least : (u d n : ℕ) → n ≤ growth u d n
+pub growth-at-least : (u d n : ℕ) → n ≤ growth u d n
 growth-at-least u d zero = omega arith
 growth-at-least u d (suc n) = le-mul-of-pos-right (suc n) (one-le-pow d (u + suc n) (omega arith))
-
--- a span begins at lo, or where d = 0 at its end
-abbrev pub Begins : (d lo to from : ℕ) → Type 0
-Begins d lo to from = ((d ≡ 0) × (from ≡ to)) ⊎ (from ≡ lo)
-
--- it may begin there, and end at the target
-pub within-span :
-    (u d t : ℕ) {lo hi to from r : ℕ} → lo ≤ hi → to ≡ min hi (max lo t) → Begins d lo to from → LeastWithin t (growth u d) from to r →
-    LeastWithin t (growth u d) lo hi r
-within-span u d t {lo} {hi} {to} {from} h e begins w =
-    within-target (growth-at-least u d) e (within-from (low begins) (none begins) w)
-  where
-    low : Begins d lo to from → lo ≤ from
-    low (inl z) = omega (arith, z .1)
-    low (inr l) = omega arith
-
-    none : Begins d lo to from → (n : ℕ) → lo ≤ n → n < from → growth u d n < t
-    none (inl z) n a b = rw (z .0, pow-zero (u + n), mul-one n) (omega (arith, z .1))
-    none (inr l) n a b = absurd (omega arith)
 
 module _ (k u d : ℕ) (hk : 1 ≤ k) where
   pub scaled-at-least : (n : ℕ) → n ≤ scaled k u d n

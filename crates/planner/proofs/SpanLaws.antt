@@ -46,27 +46,21 @@ module _ {t : ℕ} {reach : ℕ → ℕ} where
         here = λ _. ⊎-elim (λ (q : r ≡ mid). subst (λ (n : ℕ). t ≤ reach n) (sym q) k) (w .here) (eq-or-lt-of-le (w .high));
       }
 
-  -- where no number before `from` reaches t, the search may begin there
-  pub within-from :
-      {lo from hi r : ℕ} → lo ≤ from → ((n : ℕ) → lo ≤ n → n < from → reach n < t) → LeastWithin t reach from hi r →
-      LeastWithin t reach lo hi r
-  within-from {lo} {from} {r = r} l none w =
+  pub within-right :
+      {lo hi r : ℕ} (mid : ℕ) → Rising reach → lo ≤ mid → reach mid < t → LeastWithin t reach (mid + 1) hi r → LeastWithin t reach lo hi r
+  within-right {lo} {hi} {r} mid up l k w =
       record {
         low = omega (arith, w .low);
         high = w .high;
-        before = λ n a b. before-by n a b (decLe from n);
+        before = λ n a b. before-by n b (decLe n mid);
         here = w .here;
       }
     where
-      before-by : (n : ℕ) → lo ≤ n → n < r → Dec (from ≤ n) → reach n < t
-      before-by n a b (yes h) = w .before n h b
-      before-by n a b (no h) = none n a (omega arith)
+      before-by : (n : ℕ) → n < r → Dec (n ≤ mid) → reach n < t
+      before-by n b (yes h) = omega (arith, up n mid h)
+      before-by n b (no h) = w .before n (omega arith) b
 
-  pub within-right :
-      {lo hi r : ℕ} (mid : ℕ) → Rising reach → lo ≤ mid → reach mid < t → LeastWithin t reach (mid + 1) hi r → LeastWithin t reach lo hi r
-  within-right mid up l k w = within-from (omega arith) (λ n a b. omega (arith, up n mid (omega arith))) w
-
-  -- where n ≤ reach n the target reaches itself, and the span may end there
+  -- where n ≤ reach n the span need not go past the target
   pub within-target :
       {lo hi to r : ℕ} → ((n : ℕ) → n ≤ reach n) → to ≡ min hi (max lo t) → LeastWithin t reach lo to r → LeastWithin t reach lo hi r
   within-target {lo} {hi} {to} {r} up e w = by-order (decLe hi (max lo t))

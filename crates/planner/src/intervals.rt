@@ -1,6 +1,6 @@
 // The intervals of a move in range. An interval above 4,096 may come out smaller than the rule's,
 // but never below 4,097: such a move is refused either way.
-use crate::extremes::larger;
+use crate::min_max::larger;
 use crate::search::least_interval;
 ghost use mathlib.Core.Path.{_≡_};
 ghost use Prim.Native.Nat.{_^_, _≤_};

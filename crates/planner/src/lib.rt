@@ -3,10 +3,10 @@
 mod axes;
 mod bounds;
 mod division;
-mod extremes;
 mod figures;
 mod in_range;
 mod intervals;
+mod min_max;
 mod search;
 mod size;
 mod third;

@@ -1,6 +1,6 @@
 // The search for the least interval that reaches a target.
-use crate::extremes::larger;
-use crate::extremes::smaller;
+use crate::min_max::larger;
+use crate::min_max::smaller;
 ghost use mathlib.Core.Path.{_≡_};
 ghost use Prim.Native.Nat.{_^_, _≤_, min, max};
 ghost use Rattle.planner.specs.Least.{least};
@@ -19,14 +19,14 @@ fn power(m: u64, d: u64) -> u64
     }
 }
 
-// The least n from lo to hi with n·(u+n)^d ≥ t, or hi where there is none below it. The span from
-// lo to hi is halved until one number is left.
+// The least n from lo to hi with n·(u+n)^d ≥ t, or hi where there is none below it. The span is
+// halved until one number is left. It need not go past t, since n·(u+n)^d is at least n.
 fn search(u: u64, d: u64, t: u64, lo: u64, hi: u64) -> u64
     requires { ⌜ SearchArgs 4097 u d lo hi ⌝ }
     ensures { λ r. ⌜ LeastWithin t (growth u d) lo hi r ⌝ }
 {
     let mut from = lo;
-    let mut to = hi;
+    let mut to = smaller(hi, larger(lo, t));
     loop {
         if from == to {
             break from;
@@ -42,14 +42,10 @@ fn search(u: u64, d: u64, t: u64, lo: u64, hi: u64) -> u64
 }
 
 // The least n from lo on with k·n·(u+n)^d ≥ t, or hi where there is none below it. One division takes
-// the bound k to the other side, so that no product passes 64 bits. The quotient reaches itself, so
-// the span ends there at the latest; where d = 0 nothing before its end reaches the quotient.
+// the bound k to the other side, so that no product passes 64 bits.
 pub(crate) fn least_interval(k: u64, u: u64, d: u64, t: u64, lo: u64, hi: u64) -> u64
     requires { ⌜ ReachArgs 4097 k u d t lo hi ⌝ }
     ensures { λ r. ⌜ r ≡ max lo (min hi (least t (scaled k u d))) ⌝ }
 {
-    let quotient = (t + (k - 1)) / k;
-    let to = smaller(hi, larger(lo, quotient));
-    let from = if d == 0 { to } else { lo };
-    search(u, d, quotient, from, to)
+    search(u, d, (t + (k - 1)) / k, lo, hi)
 }

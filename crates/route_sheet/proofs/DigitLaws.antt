@@ -26,8 +26,8 @@ module _ {n first left : ℕ} {places : List ℕ} (f : Found n places first left
   pub found-all : left < 10 → take (20 - first) (drop first (set places first (digit left))) ≡ decimal n
   found-all h =
       let all = from-set places first (digit left) (rw (f .size) (f .place)) in
-      let longest = ap length all ∙ ap suc (length-drop (suc first) places) in
-      take-all (20 - first) (drop first (set places first (digit left))) (omega (arith, longest, f .size, f .place))
+      let count = ap length all ∙ ap suc (length-drop (suc first) places) in
+      take-all (20 - first) (drop first (set places first (digit left))) (omega (arith, count, f .size, f .place))
       ∙ all
       ∙ ap (λ (l : List ℕ). l ++ drop (suc first) places) (sym (decimal-digit left h))
       ∙ sym (f .digits)

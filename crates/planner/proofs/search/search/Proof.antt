@@ -3,9 +3,10 @@
 use Prim.Native.Nat.{ℕ, _+_, _-_, _*_, _/_, _^_, _≤_}
 use native.Mathlib.Nat.{mul-le-mul}
 use native.Mathlib.Omega.{arith}
+use borrow.Author.Needs.{needs}
 use Rattle.planner.specs.Inner.Search.{growth, LeastWithin}
-use Rattle.planner.proofs.SpanLaws.{within-one, within-left, within-right}
-use Rattle.planner.proofs.ReachLaws.{pow-bound, growth-rising}
+use Rattle.planner.proofs.SpanLaws.{within-one, within-left, within-right, within-target}
+use Rattle.planner.proofs.ReachLaws.{pow-bound, growth-rising, growth-at-least}
 use Rattle.planner.proofs.search.search.Statement.{statement}
 use Rattle.planner.proofs.search.search.Tie as tie
 
@@ -16,8 +17,17 @@ Inv-loop u d t lo hi from₀ to₀ from to =
 abbrev μ-loop : tie.MeasureT-loop
 μ-loop u d t lo hi from₀ to₀ from to = to - from
 
+larger-requires : tie.Need-larger-requires Inv-loop μ-loop
+larger-requires c κs = search needs
+
+smaller-requires : tie.Need-smaller-requires Inv-loop μ-loop
+smaller-requires c κs = search needs
+
 loop-holds : tie.Need-loop-holds Inv-loop μ-loop
-loop-holds c = (omega arith, omega arith, λ r w. w)
+loop-holds c =
+    let a = c .before .before .args in
+    let end = rw (c .before .larger .ensures) at (c .smaller .ensures) in
+    (omega arith, omega arith, λ r w. within-target (growth-at-least (a .u) (a .d)) end w)
 
 add-mid : tie.Need-add-mid Inv-loop μ-loop
 add-mid c = omega arith
@@ -30,7 +40,7 @@ power-requires c κs = omega arith
 
 mul-reached : tie.Need-mul-reached Inv-loop μ-loop
 mul-reached c =
-    let a = c .before .before .before .args in
+    let a = c .before .before .before .before .before .args in
     let n = c .before .before .loop in
     let mid : ℕ = (n .from + n .to) / 2 in
     let small : mid ≤ 16388 = omega arith in
@@ -46,7 +56,7 @@ loop-less c = omega arith
 
 loop-again : tie.Need-loop-again Inv-loop μ-loop
 loop-again c =
-    let a = c .before .before .before .before .args in
+    let a = c .before .before .before .before .before .before .args in
     let n = c .before .before .before .loop in
     let mid : ℕ = (n .from + n .to) / 2 in
     let short = rw (c .before .power .ensures) at (c .if2 .taken) in
@@ -67,5 +77,5 @@ returns c = c .before .loop .inv .2 _ (within-one (c .if1 .taken))
 pub search-spec : {M : Type 1} → statement M
 search-spec =
     tie.close
-    (tie.spec Inv-loop μ-loop loop-holds add-mid add-power power-requires mul-reached add-from loop-less loop-again loop-less-2 loop-again-2
+    (tie.spec Inv-loop μ-loop larger-requires smaller-requires loop-holds add-mid add-power power-requires mul-reached add-from loop-less loop-again loop-less-2 loop-again-2
     returns)

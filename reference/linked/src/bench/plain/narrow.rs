@@ -4,7 +4,7 @@
 //! an interval go from the paper's last to its first. Each ends at 4,097, since
 //! more samples are refused, or at what the search before it found. It compares
 //! f(n) with target/bound, rounded up, in place of bound·f(n) with the target, and
-//! ends there, since n ≤ f(n). Where f(n) is n there is nothing to look for.
+//! does not look beyond that quotient, since n ≤ f(n).
 //!
 //! Nothing passes 64 bits: each f(n) is below 2^50, and J1, A1 and V1 come from
 //! products of at most 2^50 and an interval of 8,194.
@@ -30,19 +30,19 @@ pub fn plan_narrow(motion: &Move) -> Answer {
 
 fn intervals(motion: &Move, w: u64) -> [u64; 4] {
     let [v, acceleration, j, s] = motion.bounds();
-    let a = j.div_ceil(s).clamp(1, NONE);
+    let a = least(1, NONE, j.div_ceil(s), |n| n);
     let a = least(1, a, acceleration.div_ceil(s), |n| n * n);
     let a = least(1, a, v.div_ceil(2 * s), |n| n * n * n);
     let a = least(1, a, w.div_ceil(8 * s), |n| n * n * n * n);
     let j1 = j.min(s * a);
-    let b = acceleration.div_ceil(j1).clamp(a, NONE);
+    let b = least(a, NONE, acceleration.div_ceil(j1), |n| n);
     let b = least(a, b, v.div_ceil(j1), |n| n * (a + n));
     let b = least(a, b, w.div_ceil(2 * j1), |n| n * (a + n) * (a + n));
     let a1 = acceleration.min(j1 * b);
-    let c = v.div_ceil(a1).min(NONE).max(a + b);
+    let c = least(a + b, NONE, v.div_ceil(a1), |n| n);
     let c = least(a + b, c, w.div_ceil(a1), |n| n * (a + b + n));
     let v1 = v.min(a1 * c);
-    let e = w.div_ceil(v1).min(NONE).max(a + b + c);
+    let e = least(a + b + c, NONE, w.div_ceil(v1), |n| n);
     [a, b, c, e]
 }
 
