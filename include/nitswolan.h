@@ -12,8 +12,7 @@
  * one overlaps what another is lent.
  *
  * A table or a text of length 0 may be NULL; any other pointer is valid for its length and aligned as its type asks. The stack that each
- * function takes stands below (NITSWOLAN_STACK_PLAN_MOVE and so on): at most 512 bytes for a move, 4 KiB for a set of axes and 24 KiB for a
- * sheet, besides the answer. From the C library only memcpy, memmove and memset are used. The archive is for x86-64 Linux.
+ * function takes stands below. From the C library only memcpy, memmove and memset are used. The archive is for x86-64 Linux.
  *
  * nitswolan_fill_force needs the floating-point state that a C program starts with: rounding to nearest, subnormals kept, no exception
  * trapped. A program that is linked with -ffast-math or changes this state gets other forces, or a signal. The others use no floats.
@@ -50,8 +49,8 @@ extern "C" {
 
 /* The stack that a call of each function takes at most, in bytes: its arguments, its return address and all that it calls, besides its
  * answer. As measured, rounded up to a multiple of 64. No function calls itself, directly or by way of others, so the depth of calls does
- * not grow with what is sent. What memcpy, memmove and memset take themselves is the C library's; where a program binds their names only
- * at the first call, that call takes more (link with -z now, or call once on a larger stack). */
+ * not grow with what is sent. What memcpy, memmove and memset take themselves is the C library's. Where a program binds their names only at
+ * the first call, that call takes some 3 KiB more: link with -z now, or call every function once before. */
 #define NITSWOLAN_STACK_PLAN_MOVE 256
 #define NITSWOLAN_STACK_SAMPLE_MOVE 320
 #define NITSWOLAN_STACK_FILL_POSITIONS 384

@@ -34,18 +34,18 @@ static void *call(void *given) {
   const uint8_t *text = (const uint8_t *)todo->text;
   __asm__ volatile("mov %%rsp, %0" : "=m"(todo->before));
   switch (todo->entry) {
-  case 0: return nitswolan_plan_move(todo->answer, move);
-  case 1: return nitswolan_sample_move(todo->answer, move, 4096);
-  case 2: todo->answer[0] = nitswolan_fill_positions(move, todo->table, 4097).words[0]; break;
-  case 3: todo->answer[0] = nitswolan_fill_reference(move, todo->table, 4098).words[0]; break;
-  case 4: todo->answer[0] = nitswolan_fill_force(move, machine, todo->forces, 4098).words[0]; break;
-  case 5: return nitswolan_plan_third(todo->answer, longer);
-  case 6: return nitswolan_sample_third(todo->answer, longer, 4096);
-  case 7: todo->answer[0] = nitswolan_fill_positions_third(longer, todo->table, 4097).words[0]; break;
-  case 8: todo->answer[0] = nitswolan_fill_reference_third(longer, todo->table, 4098).words[0]; break;
-  case 9: return nitswolan_plan_axes(todo->answer, *todo->axes);
-  case 10: return nitswolan_sample_axes(todo->answer, *todo->axes, 4096);
-  case 11: return nitswolan_read_sheet(todo->answer, text, strlen(todo->text));
+  case PLAN_MOVE: return nitswolan_plan_move(todo->answer, move);
+  case SAMPLE_MOVE: return nitswolan_sample_move(todo->answer, move, 4096);
+  case FILL_POSITIONS: todo->answer[0] = nitswolan_fill_positions(move, todo->table, 4097).words[0]; break;
+  case FILL_REFERENCE: todo->answer[0] = nitswolan_fill_reference(move, todo->table, 4098).words[0]; break;
+  case FILL_FORCE: todo->answer[0] = nitswolan_fill_force(move, machine, todo->forces, 4098).words[0]; break;
+  case PLAN_THIRD: return nitswolan_plan_third(todo->answer, longer);
+  case SAMPLE_THIRD: return nitswolan_sample_third(todo->answer, longer, 4096);
+  case FILL_POSITIONS_THIRD: todo->answer[0] = nitswolan_fill_positions_third(longer, todo->table, 4097).words[0]; break;
+  case FILL_REFERENCE_THIRD: todo->answer[0] = nitswolan_fill_reference_third(longer, todo->table, 4098).words[0]; break;
+  case PLAN_AXES: return nitswolan_plan_axes(todo->answer, *todo->axes);
+  case SAMPLE_AXES: return nitswolan_sample_axes(todo->answer, *todo->axes, 4096);
+  case READ_SHEET: return nitswolan_read_sheet(todo->answer, text, strlen(todo->text));
   default: todo->answer[0] = nitswolan_report(text, strlen(todo->text), todo->report);
   }
   return NULL;
@@ -74,7 +74,7 @@ static void measure(work *todo, unsigned char *stack, int first, int end) {
   for (todo->entry = first; todo->entry < end; todo->entry++) {
     call(todo); /* so that no name is bound late, on the measured stack */
     size_t taken = stack_of(todo, stack);
-    if (taken == 0 || (first == OF_A_MOVE && todo->answer[0] != 0)) {
+    if (taken == 0 || (first == PLAN_MOVE && todo->answer[0] != 0)) {
       taken = STACK;
     }
     if (taken > todo->most[todo->entry]) {
@@ -103,7 +103,7 @@ static void measure_sets(work *todo, unsigned char *stack) {
   };
   for (size_t k = 0; k < sizeof sets / sizeof *sets; k++) {
     todo->axes = &sets[k];
-    measure(todo, stack, OF_A_SET, OF_A_SHEET);
+    measure(todo, stack, PLAN_AXES, READ_SHEET);
   }
 }
 
@@ -131,7 +131,7 @@ static void measure_sheets(work *todo, unsigned char *stack) {
   };
   for (size_t k = 0; k < sizeof texts / sizeof *texts; k++) {
     todo->text = texts[k];
-    measure(todo, stack, OF_A_SHEET, ENTRIES);
+    measure(todo, stack, READ_SHEET, ENTRIES);
   }
 }
 
@@ -142,13 +142,17 @@ int main(void) {
   if (posix_memalign(&stack, 4096, STACK) != 0) {
     return 1;
   }
-  measure(&todo, stack, OF_A_MOVE, OF_A_SET);
+  measure(&todo, stack, PLAN_MOVE, PLAN_AXES);
   measure_sets(&todo, stack);
   measure_sheets(&todo, stack);
   for (int k = 0; k < ENTRIES; k++) {
     const entry_stack said = declared_stack[k];
-    printf("stack: %s takes %zu bytes, by the header at most %zu\n", said.name, todo.most[k], said.most);
-    failed |= (todo.most[k] + ROUNDED_TO - 1) / ROUNDED_TO * ROUNDED_TO != said.most;
+    const size_t figure = (todo.most[k] + ROUNDED_TO - 1) / ROUNDED_TO * ROUNDED_TO;
+    printf("stack: %s takes %zu bytes, its figure is %zu\n", said.name, todo.most[k], figure);
+    if (figure != said.most) {
+      printf("stack: %s has %zu in the header\n", said.name, said.most);
+      failed = 1;
+    }
   }
   free(stack);
   return failed;

@@ -1,4 +1,4 @@
--- Laws of the search over a span: what it finds is `least`, and the span may be halved.
+-- Laws of the search over a span: what it finds is `least`, the span may be halved, and it need not go past the target.
 use mathlib.Core.Path.{_≡_, sym, subst}
 use mathlib.Core.Logic.{⊎-elim}
 use Prim.Native.Nat.{ℕ, _+_, _≤_, _<_, _-_, min, max}

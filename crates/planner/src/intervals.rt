@@ -28,7 +28,7 @@ fn carried(bound: u64, k: u64, n: u64) -> u64
 }
 
 // Each search looks no further than the one before it found, and no lower than the interval may be. The
-// rule's last search stands first: it is the cheapest, and the spans of the others are short after it.
+// rule's last search stands first: its product is the cheapest, and the others end at what it finds.
 fn interval_a(w: u64, v: u64, acc: u64, j: u64, s: u64) -> u64
     requires { ⌜ Figures w v acc j s ⌝ }
     ensures { λ r. ⌜ Agrees 4097 4097 r (interval-a w v acc j s) ⌝ }

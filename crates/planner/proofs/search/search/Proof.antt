@@ -77,5 +77,5 @@ returns c = c .before .loop .inv .2 _ (within-one (c .if1 .taken))
 pub search-spec : {M : Type 1} → statement M
 search-spec =
     tie.close
-    (tie.spec Inv-loop μ-loop larger-requires smaller-requires loop-holds add-mid add-power power-requires mul-reached add-from loop-less loop-again loop-less-2 loop-again-2
-    returns)
+    (tie.spec Inv-loop μ-loop larger-requires smaller-requires loop-holds add-mid add-power power-requires mul-reached add-from loop-less
+    loop-again loop-less-2 loop-again-2 returns)
