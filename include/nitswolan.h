@@ -52,14 +52,14 @@ extern "C" {
  * not grow with what is sent. What memcpy, memmove and memset take themselves is the C library's. Where a program binds their names only at
  * the first call, that call takes some 3 KiB more: link with -z now, or call every function once before. */
 #define NITSWOLAN_STACK_PLAN_MOVE 256
-#define NITSWOLAN_STACK_SAMPLE_MOVE 320
+#define NITSWOLAN_STACK_SAMPLE_MOVE 832
 #define NITSWOLAN_STACK_FILL_POSITIONS 384
 #define NITSWOLAN_STACK_FILL_REFERENCE 384
 #define NITSWOLAN_STACK_FILL_FORCE 448
 #define NITSWOLAN_STACK_PLAN_AXES 2176
 #define NITSWOLAN_STACK_SAMPLE_AXES 3968
 #define NITSWOLAN_STACK_PLAN_THIRD 192
-#define NITSWOLAN_STACK_SAMPLE_THIRD 192
+#define NITSWOLAN_STACK_SAMPLE_THIRD 384
 #define NITSWOLAN_STACK_FILL_POSITIONS_THIRD 256
 #define NITSWOLAN_STACK_FILL_REFERENCE_THIRD 256
 #define NITSWOLAN_STACK_READ_SHEET 18112

@@ -2,12 +2,13 @@
 use mathlib.Core.List.{List}
 use mathlib.Core.Path.{_≡_, sym, ap, ap₂, _∙_, fun-ext}
 use Prim.Native.Nat.{ℕ}
-use lib.IntN.{ℤ, pos, negsuc, negℤ}
+use lib.IntN.{ℤ, pos, negsuc, negℤ, natAbs}
 use Rattle.planner.specs.Quantities.{along}
 use Rattle.planner.specs.Intervals.{Intervals}
 use Rattle.planner.specs.Third.{ThirdIntervals}
 use Rattle.planner.specs.Inner.Facts.{Ordered}
 use Rattle.planner.specs.Inner.ThirdFacts.{ThirdOrdered}
+use Rattle.planner.proofs.DirectionLaws.{size-along}
 use Rattle.profile.specs.Profile.{Segment, switchedIn}
 use Rattle.profile.specs.Profile as profile
 use Rattle.profile.specs.Inner.Widths.{Spread, switched, switchedBy}
@@ -35,6 +36,14 @@ module _ (a : ℕ) (ws : List ℕ) (s : Spread a ws) {xs : List Segment} (same :
       → AreLevels X D levels
       → switchedBy a ws (levels .positive) (levels .negative) ≡ directedValue X xs D
   directed-value {X} l = ap₂ (switchedBy a ws) (l .positive-is) (l .negative-is) ∙ fun-ext (at-sample X)
+
+-- the level with + and its negative are levels of the same direction and size
+module _ {X : ℤ} {D : ℕ} {levels : Levels} (l : AreLevels X D levels) {x : ℤ} (is : x ≡ levels .positive) where
+  pub signed-levels : AreLevels X D (record { positive = x; negative = negℤ x })
+  signed-levels = record { positive-is = is ∙ l .positive-is; negative-is = ap negℤ (is ∙ l .positive-is) }
+
+  pub signed-size : natAbs x ≡ D
+  signed-size = ap natAbs (is ∙ l .positive-is) ∙ size-along X (pos D)
 
 pub directed-snap :
     {X : ℤ} {t : Intervals} {D : ℕ} {levels : Levels}

@@ -7,6 +7,8 @@ pub mod RoundedValues
 pub mod OrderedLaws
 pub mod RestLaws
 pub mod InnerSampleLaws
+pub mod ProductLaws
+pub mod ClosedStates
 pub mod StepLaws
 pub mod DirectedSizes
 pub mod StateLaws

@@ -18,9 +18,9 @@ use Rattle.motion.specs.Inner.Runs.{positionWriter, thirdWriter, CanRun,
 use Rattle.motion.specs.Inner.Planned.{WithinRange, ThirdWithinRange, directedSnap, directedPosition, RowsIn}
 use Rattle.motion.specs.Inner.SegmentLists.{fourthSegments, thirdSegments}
 use Rattle.motion.proofs.OrderedLaws.{fourth-samples, third-samples}
-use Rattle.motion.proofs.StepLaws.{next}
+use Rattle.motion.proofs.StepLaws.{next, third-next}
 use Rattle.motion.proofs.StateLaws.{state-is, step-fits}
-use Rattle.motion.proofs.ThirdStates.{directedJerk, third-values, third-step-fits, third-next}
+use Rattle.motion.proofs.ThirdStates.{directedJerk, third-values, third-step-fits}
 use Rattle.motion.proofs.RowLaws.{Carries}
 use Rattle.motion.proofs.TableLaws.{run, can-run, rows-in}
 

@@ -1,18 +1,16 @@
--- The sums of a third-order plan's jerk in the move's direction: the profile's values, and none leaves its range; and steps from rest.
+-- The sums of a third-order plan's jerk in the move's direction: the profile's values, and none leaves its range.
 use mathlib.Core.List.{[]}
-use mathlib.Core.Path.{_≡_, refl, sym, ap, ap₂, subst, _∙_, fun-ext}
-use Prim.Native.Nat.{ℕ, _+_, _≤_, _^_}
-use native.Mathlib.Numerals.{add-one}
+use mathlib.Core.Path.{_≡_, ap, fun-ext}
+use Prim.Native.Nat.{ℕ, _≤_, _^_}
 use lib.IntN.{ℤ, pos, +ℤ-idr}
 use Rattle.planner.specs.Quantities.{along}
 use Rattle.planner.specs.Third.{ThirdIntervals}
-use Rattle.profile.specs.Profile.{switchedIn, sum}
+use Rattle.profile.specs.Profile.{switchedIn}
 use Rattle.profile.specs.Inner.Repeated.{sums}
 use Rattle.profile.specs.Inner.Widths.{product}
 use Rattle.profile.proofs.SumSizes as size
 use Rattle.motion.specs.Sampling.{thirdValuesAt}
-use Rattle.motion.specs.declared.state.State.{State}
-use Rattle.motion.specs.Inner.Steps.{rest, StepFits, stepped, sumsIn, withJerk, summed, sumsAt, thirdStateAt}
+use Rattle.motion.specs.Inner.Steps.{StepFits, thirdStateAt}
 use Rattle.motion.specs.Inner.Planned.{ThirdWithinRange, thirdWidthsOf, valuesIn}
 use Rattle.motion.specs.Inner.SegmentLists.{thirdSegments}
 use Rattle.motion.proofs.IntegerLaws.{small-fits}
@@ -55,45 +53,3 @@ module _ (X : ℤ) (t : ThirdIntervals) (D : ℕ) where
     jerk-small =
         size.inner-most (t .b) D (h .ordered .one-b) (2 ^ 60) D (thirdWidthsOf t) [] (third-spread (h .ordered)) (h .reach)
         (size.one-step (t .b) D (h .ordered .one-b))
-
--- Steps from rest over a jerk f.
-pub third-next : (f : ℕ → ℤ) (k : ℕ) → summed (sumsAt f k) (f k) ≡ sumsAt f (k + 1)
-unfolding sum sums
-third-next f k = rw (add-one k) refl
-
--- the sums of the state are those at its sample
-pub record Summed (f : ℕ → ℤ) (s : State) : Type 0 where
-  pub is : sumsIn s ≡ sumsAt f (s .sample)
-
-pub summed-first : (f : ℕ → ℤ) {s : State} → s ≡ rest → Summed f s
-unfolding sum sums
-summed-first f h = record { is = ap sumsIn h ∙ ap (λ (s : State). sumsAt f (s .sample)) (sym h) }
-
--- with the jerk there it is the state, so a step from it fits
-pub summed-fits :
-    {f : ℕ → ℤ} {s u : State} {x : ℤ}
-    → Summed f s
-    → x ≡ f (s .sample)
-    → u ≡ withJerk (sumsIn s) x
-    → StepFits (thirdStateAt f (s .sample)) (pos 0)
-    → StepFits u (pos 0)
-summed-fits h k held fits = subst (λ (u : State). StepFits u (pos 0)) (sym (held ∙ ap₂ withJerk (h .is) k)) fits
-
-pub summed-next :
-    {f : ℕ → ℤ} {s t u : State} {x : ℤ}
-    → Summed f s
-    → x ≡ f (s .sample)
-    → u ≡ withJerk (sumsIn s) x
-    → t ≡ stepped u (pos 0)
-    → Summed f t
-summed-next {f} {s} {t} h k held l =
-    let step : t ≡ stepped (withJerk (sumsIn s) _) (pos 0) = l ∙ ap (λ (u : State). stepped u (pos 0)) held in
-    record {
-      is =
-          ap sumsIn step ∙ ap₂ summed (h .is) k ∙ third-next f (s .sample)
-          ∙ ap (λ (t : State). sumsAt f (t .sample)) (sym step);
-    }
-
-pub summed-at :
-    {f : ℕ → ℤ} {s t : State} {k : ℕ} {x : ℤ} → Summed f s → s .sample ≡ k → x ≡ f k → t ≡ withJerk (sumsIn s) x → t ≡ thirdStateAt f k
-summed-at {f} h q j l = l ∙ ap₂ withJerk (h .is ∙ ap (sumsAt f) q) j

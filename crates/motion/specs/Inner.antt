@@ -2,6 +2,7 @@
 -- on it.
 pub mod SwitchedLevels
 pub mod InnerSamples
+pub mod ClosedForm
 pub mod Steps
 pub mod Planned
 pub mod PlannedAxes

@@ -1,7 +1,7 @@
 // One sample of an axis of a set that was planned.
 use crate::REST;
 use crate::Sample;
-use crate::sums::sample_in_plan;
+use crate::one_sample::sample_in_plan;
 use planner::Move;
 use planner::Plan;
 ghost use Rattle.motion.specs.Inner.PlannedAxes.{AxisInRange, IsAxisSample};

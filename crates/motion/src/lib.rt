@@ -1,20 +1,23 @@
 // One sample of a move, in the fourth or the third order, or of a set of axes, and the tables that the drive and the feedback loop play.
 // Every entry takes the moves' own numbers and plans inside.
 mod axes;
+mod closed_form;
 mod count;
 mod force;
+mod one_sample;
 mod planned;
 mod positions;
 mod reference;
 mod refusal;
 mod segments;
 mod state;
-mod sums;
 mod switched;
 mod third;
 
 use crate::axes::sample_axis;
 use crate::force::table::write_rows;
+use crate::one_sample::sample_in_plan;
+use crate::one_sample::sample_in_third;
 use crate::planned::samples_in_plan;
 use crate::planned::samples_in_third;
 use crate::positions::table::write_positions;
@@ -24,8 +27,6 @@ use crate::refusal::no_samples;
 use crate::refusal::plan_refusal;
 use crate::refusal::third_refusal;
 use crate::refusal::unsampled_axes;
-use crate::sums::sample_in_plan;
-use crate::third::sums::sample_in_third;
 use crate::third::table::write_third;
 use planner::AxesAnswer;
 use planner::MOST_AXES;

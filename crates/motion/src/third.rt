@@ -1,4 +1,3 @@
-// One sample and the positions of a third-order plan: the jerk is switched, and three sums follow it.
+// The positions of a third-order plan: the jerk is switched, and three sums follow it.
 pub(crate) mod store;
-pub(crate) mod sums;
 pub(crate) mod table;

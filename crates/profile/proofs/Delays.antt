@@ -1,8 +1,8 @@
 -- A function and another that is delayed by w samples, for each width w: their sums, and any two others with the same difference.
-use mathlib.Core.Path.{_≡_, refl, ap₂, _∙_}
+use mathlib.Core.Path.{_≡_, refl, sym, ap₂, _∙_}
 use mathlib.Core.List.{List, [], _∷_, _++_}
-use Prim.Native.Nat.{ℕ, _+_, _-_}
-use native.Mathlib.Nat.{zero-sub}
+use Prim.Native.Nat.{ℕ, _+_, _-_, _*_}
+use native.Mathlib.Nat.{zero-sub, mul-add}
 use native.Mathlib.Omega.{arith}
 use Rattle.profile.specs.Inner.Widths.{total}
 use Rattle.profile.proofs.Totals.{total-late}
@@ -18,7 +18,7 @@ unfolding delays
 delays-start [] f g p q = p
 delays-start (w ∷ ws) f g p q = rw zero-sub (omega (arith, delays-start ws f g p q, delays-start ws g f q p))
 
-delays-total : (ws : List ℕ) (f g : ℕ → ℕ) → f 0 ≡ 0 → g 0 ≡ 0 → (k : ℕ) → total (delays ws f g) k ≡ delays ws (total f) (total g) k
+pub delays-total : (ws : List ℕ) (f g : ℕ → ℕ) → f 0 ≡ 0 → g 0 ≡ 0 → (k : ℕ) → total (delays ws f g) k ≡ delays ws (total f) (total g) k
 unfolding delays
 delays-total [] f g p q k = refl
 delays-total (w ∷ ws) f g p q k =
@@ -29,7 +29,7 @@ delays-total (w ∷ ws) f g p q k =
 abbrev pub delay : ℕ → (f g : ℕ → ℕ) → ℕ → ℕ
 delay w f g k = f k + g (k - w)
 
-delays-inner : (ws : List ℕ) (w : ℕ) (f g : ℕ → ℕ) (k : ℕ) → delays (ws ++ (w ∷ [])) f g k ≡ delays ws (delay w f g) (delay w g f) k
+pub delays-inner : (ws : List ℕ) (w : ℕ) (f g : ℕ → ℕ) (k : ℕ) → delays (ws ++ (w ∷ [])) f g k ≡ delays ws (delay w f g) (delay w g f) k
 unfolding delays
 delays-inner [] w f g k = refl
 delays-inner (v ∷ ws) w f g k = ap₂ _+_ (delays-inner ws w f g k) (delays-inner ws w g f (k - v))
@@ -52,3 +52,16 @@ pub delays-same :
 unfolding delays
 delays-same [] f g h l e k = e k
 delays-same (w ∷ ws) f g h l e k = omega (arith, delays-same ws f g h l e k, delays-same ws f g h l e (k - w))
+
+-- what is m times f and g comes to m times as much
+pub delays-times :
+    (ws : List ℕ) (m : ℕ) (f g h l : ℕ → ℕ)
+    → ((k : ℕ) → h k ≡ m * f k)
+    → ((k : ℕ) → l k ≡ m * g k)
+    → (k : ℕ)
+    → delays ws h l k ≡ m * delays ws f g k
+unfolding delays
+delays-times [] m f g h l p q k = p k
+delays-times (w ∷ ws) m f g h l p q k =
+    ap₂ _+_ (delays-times ws m f g h l p q k) (delays-times ws m g f l h q p (k - w))
+    ∙ sym (mul-add m (delays ws f g k) (delays ws g f (k - w)))

@@ -1,11 +1,11 @@
 -- A signed number as D times the difference of two natural numbers: its sums, its size, its sign and its value.
-use mathlib.Core.Path.{_≡_, refl, ap, _∙_}
+use mathlib.Core.Path.{_≡_, refl, ap, subst₂, _∙_}
 use mathlib.Core.Bool.{Bool, true, false, cond}
 use Prim.Native.Nat.{ℕ, zero, suc, _+_, _-_, _*_, _≤_}
-use native.Mathlib.Nat.{mul-add, mul-zero, mul-le-mul-left}
+use native.Mathlib.Nat.{mul-add, mul-zero, one-mul, mul-le-mul-left}
 use native.Mathlib.Omega.{arith}
 use lib.Dec.{ltb, le→leb}
-use lib.IntN.{ℤ, pos, negsuc, subℕ, natAbs, negℤ, _+ℤ_}
+use lib.IntN.{ℤ, pos, negsuc, subℕ, natAbs, negℤ, _+ℤ_, _*ℤ_}
 use lib.Signed.{_≤ℤ_}
 use borrow.Author.Tests.{ltb-true, ltb-false}
 
@@ -43,6 +43,16 @@ size-is (negsuc n) u v t p h l = omega arith
 value-is : (x : ℤ) (u v n : ℕ) → Is x u v → u ≡ n + v → x ≡ pos n
 value-is (pos m) u v n p q = ap pos (omega arith)
 value-is (negsuc m) u v n p q = absurd (omega arith)
+
+one-value : (x y : ℤ) (u v : ℕ) → Is x u v → Is y u v → x ≡ y
+one-value (pos m) (pos n) u v p q = ap pos (omega arith)
+one-value (pos m) (negsuc n) u v p q = absurd (omega arith)
+one-value (negsuc m) (pos n) u v p q = absurd (omega arith)
+one-value (negsuc m) (negsuc n) u v p q = ap negsuc (omega arith)
+
+times-is : (m : ℕ) (x : ℤ) (u v : ℕ) → Is x u v → Is (pos m *ℤ x) (m * u) (m * v)
+times-is m (pos n) u v p = rw p (mul-add m n v)
+times-is m (negsuc n) u v p = negated-is (pos (m * suc n)) (m * v) (m * u) (rw p (mul-add m (suc n) u))
 
 forward-is : (x : ℤ) (u v : ℕ) → Is x u v → v ≤ u → pos 0 ≤ℤ x
 forward-is (pos n) u v p h = record { le = le→leb 0 n (omega arith) }
@@ -83,3 +93,19 @@ module _ {D : ℕ} where
 
   pub forward : {x : ℤ} {u v : ℕ} → Difference D x u v → v ≤ u → pos 0 ≤ℤ x
   forward {x} {u} {v} p h = forward-is x (D * u) (D * v) (p .is) (mul-le-mul-left D h)
+
+  -- there is one such number
+  pub unique : {x y : ℤ} {u v : ℕ} → Difference D x u v → Difference D y u v → x ≡ y
+  unique {x} {y} {u} {v} p q = one-value x y (D * u) (D * v) (p .is) (q .is)
+
+-- a natural number, for D = 1
+pub whole-is : (n : ℕ) → Difference 1 (pos n) n 0
+whole-is n = record { is = omega arith }
+
+-- m times a number, for D = m; and the same where m is a factor of both
+module _ {x : ℤ} {u v : ℕ} where
+  pub times : (m : ℕ) → Difference 1 x u v → Difference m (pos m *ℤ x) u v
+  times m p = let q : Is x u v = subst₂ (Is x) (one-mul u) (one-mul v) (p .is) in record { is = times-is m x u v q }
+
+  pub factored : (m : ℕ) → Difference 1 x (m * u) (m * v) → Difference m x u v
+  factored m p = record { is = subst₂ (Is x) (one-mul (m * u)) (one-mul (m * v)) (p .is) }

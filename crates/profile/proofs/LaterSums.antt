@@ -15,7 +15,7 @@ use Rattle.profile.proofs.RampLaws.{ramp-start}
 use Rattle.profile.proofs.Delays.{delay, delays, delays-summed, delays-same}
 use Rattle.profile.proofs.FirstSum.{DelayedRamp}
 
-sum-is :
+pub sum-is :
     (D : ℕ) (x : ℕ → ℤ) (f g : ℕ → ℕ)
     → ((i : ℕ) → Difference D (x i) (f i) (g i))
     → (k : ℕ)

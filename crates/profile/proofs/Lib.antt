@@ -20,3 +20,7 @@ pub mod HalfCountLaw
 pub mod AnyOrder
 pub mod SumSizes
 pub mod Orders
+-- The closed form of its sums.
+pub mod Binomials
+pub mod ClosedForm
+pub mod SignedForm

@@ -2,3 +2,4 @@
 pub mod Repeated
 pub mod Widths
 pub mod Facts
+pub mod ClosedForm

@@ -1,5 +1,5 @@
 -- A step from one sample to the next, and the state that steps from rest reach.
-use Prim.Native.Nat.{ℕ, _+_, _<_}
+use Prim.Native.Nat.{ℕ, _+_}
 use lib.IntN.{ℤ, pos, _+ℤ_}
 use mir.Syntax.{w64}
 use mir.Val.{Fits, SFits}
@@ -56,10 +56,3 @@ sumsAt f k = record { sample = k; acceleration = sums 1 f k; velocity = sums 2 f
 
 abbrev pub thirdStateAt : (ℕ → ℤ) → ℕ → State
 thirdStateAt f k = withJerk (sumsAt f k) (f k)
-
--- Each step to sample k.
-pub record StepsFitBy (f : ℕ → ℤ) (k : ℕ) : Type 0 where
-  pub step-fits : (i : ℕ) → i < k → StepFits (stateAt f i) (f i)
-
-pub record ThirdStepsFitBy (f : ℕ → ℤ) (k : ℕ) : Type 0 where
-  pub step-fits : (i : ℕ) → i < k → StepFits (thirdStateAt f i) (pos 0)

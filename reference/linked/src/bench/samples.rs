@@ -1,6 +1,6 @@
 //! One sample of a move.
 
-use super::contest::{Contest, Timed};
+use super::contest::Contest;
 use super::inputs::moves_of;
 use super::{agree, Section};
 use crate::library;
@@ -11,29 +11,40 @@ use reference::request::Request;
 /// A move and the number of a sample.
 type Ask = (Move, u64);
 
+/// How often a late sample may take the time of an early one, and of the plan.
+const EARLY_AIM: Option<f64> = Some(1.2);
+const PLAN_AIM: Option<f64> = Some(1.6);
+
 pub fn section() -> Result<Section, String> {
     let mut contests = Vec::new();
     for n in [8, 64, 512, 4096] {
-        contests.extend([at(n, n / 2)?, at(n, n)?]);
+        contests.extend([at(n, n / 2)?.ready(), at(n, n)?.ready()]);
     }
+    let late = at(4096, 3000)?
+        .against("sample 3", EARLY_AIM, |(motion, _), _| {
+            library::sample_move(*motion, 3)
+        })
+        .against("plan", PLAN_AIM, |(motion, _), _| {
+            library::plan_move(*motion)
+        });
+    contests.push(late.ready());
     Ok(Section {
         title: "One sample",
         contests,
     })
 }
 
-fn at(n: u64, k: u64) -> Result<Box<dyn Timed>, String> {
+fn at(n: u64, k: u64) -> Result<Contest<Ask, ()>, String> {
     let asks: Vec<Ask> = moves_of(n).into_iter().map(|motion| (motion, k)).collect();
     for (motion, k) in &asks {
         agree(&Request::Sample(Fourth, *motion, *k))?;
     }
     let what = format!("sample {k} of {n}");
-    let contest = Contest::new(what, Some(k), asks, Box::new(()))
+    Ok(Contest::new(what, Some(k), asks, Box::new(()))
         .archive(|(motion, k), _| library::sample_move(*motion, *k))
         .against("128-bit planner, iterator", None, |(motion, k), _| {
             summed(motion, *k)
-        });
-    Ok(contest.ready())
+        }))
 }
 
 #[inline(never)]

@@ -6,8 +6,8 @@ use mir.Val.{toZ, ofZ}
 use mir.Facts.{toZ-ofZ}
 use lib.IntN.{ℤ}
 use Rattle.motion.specs.Sampling.{RoundsTo}
-use Rattle.motion.proofs.sums.sample_of.Statement.{statement}
-use Rattle.motion.proofs.sums.sample_of.Tie as tie
+use Rattle.motion.proofs.one_sample.sample_of.Statement.{statement}
+use Rattle.motion.proofs.one_sample.sample_of.Tie as tie
 
 round-to-count-requires : tie.Need-round-to-count-requires
 round-to-count-requires c κs = search needs

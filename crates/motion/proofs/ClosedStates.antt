@@ -1,0 +1,93 @@
+-- The sums by the closed form, as the code has them: none leaves its range, and each is that from rest. Over any list of widths; the n-th sum
+-- is that with n - 1 widths inside, so that no more of its size is asked than of the last position's.
+use mathlib.Core.List.{List, [], _∷_, _++_}
+use mathlib.Core.Path.{_≡_, sym, ap, subst, _∙_}
+use Prim.Native.Nat.{ℕ, suc, _*_, _/_, _^_, _≤_}
+use native.Mathlib.Nat.{le-trans, div-le-self}
+use native.Mathlib.Omega.{arith}
+use mir.Syntax.{w64}
+use mir.Val.{toZ, ofZ, SFits}
+use mir.Facts.{toZ-ofZ}
+use lib.IntN.{ℤ, pos, negsuc, negℤ, natAbs, _*ℤ_}
+use lib.ListN.{length}
+use lib.Signed.{quotZ}
+use Rattle.planner.specs.Outcome.{mostSamples}
+use Rattle.planner.proofs.Sign.{size-negated}
+use Rattle.profile.specs.Profile.{switchedIn}
+use Rattle.profile.specs.Inner.Repeated.{sums}
+use Rattle.profile.specs.Inner.Widths.{product, Spread, switched, switchedBy}
+use Rattle.profile.specs.Inner.ClosedForm.{falling, factorial, differences}
+use Rattle.profile.proofs.WidthLaws.{sum-size}
+use Rattle.profile.proofs.SumSizes.{inner-most}
+use Rattle.profile.proofs.ClosedForm.{factorial-positive}
+use Rattle.profile.proofs.SignedForm.{forward, backward, signed-form}
+use Rattle.motion.specs.Inner.ClosedForm.{ScaledFits}
+use Rattle.motion.proofs.IntegerLaws.{small-fits, pos-below}
+use Rattle.motion.proofs.ProductLaws.{most, differences-most}
+
+quotient-size : (m : ℕ) (x : ℤ) → natAbs (quotZ x (pos m)) ≤ natAbs x
+quotient-size m (pos n) = div-le-self n m
+quotient-size m (negsuc n) = rw (size-negated (pos (suc n / m))) (div-le-self (suc n) m)
+
+signed-size :
+    (a : ℕ) (ws : List ℕ)
+    → Spread a ws
+    → (n k : ℕ) (level : ℤ)
+    → natAbs (sums n (switchedBy a ws level (negℤ level)) k) ≡ natAbs (sums n (switchedIn (switched a ws) (natAbs level)) k)
+signed-size a ws s n k (pos D) = ap natAbs (forward a ws s n k D)
+signed-size a ws s n k (negsuc d) = ap natAbs (backward a ws s n k d) ∙ size-negated (sums n (switchedIn (switched a ws) (suc d)) k)
+
+-- What is known of the intervals, the signed D and the sample.
+pub record Sampled (a : ℕ) (ws : List ℕ) (level : ℤ) (k : ℕ) : Type 0 where
+  pub one : 1 ≤ a
+  pub spread : Spread a ws
+  pub reach : natAbs level * product a ws ≤ 2 ^ 60
+  pub few : most (ws ++ (a ∷ [])) ≤ 2 ^ 60
+  pub sample : k ≤ mostSamples
+  pub level-fits : SFits w64 level
+
+module _ (a : ℕ) (outer inner : List ℕ) (level : ℤ) (k : ℕ) (h : Sampled a (outer ++ inner) level k) where
+  abbrev order : ℕ
+  order = suc (length inner)
+
+  abbrev value : ℤ
+  value = sums order (switchedBy a (outer ++ inner) level (negℤ level)) k
+
+  abbrev productOver : ℤ
+  productOver = differences ((outer ++ inner) ++ (a ∷ [])) (falling order) k
+
+  abbrev unit : ℤ
+  unit = quotZ productOver (pos (factorial order))
+
+  value-fits : SFits w64 value
+  value-fits =
+      small-fits value
+      (rw (signed-size a (outer ++ inner) (h .spread) order k level)
+      (inner-most a (natAbs level) (h .one) (2 ^ 60) _ outer inner (h .spread) (h .reach)
+      (sum-size a outer inner (h .spread) (natAbs level) k)))
+
+  value-is : value ≡ level *ℤ unit
+  value-is = signed-form a (outer ++ inner) (h .spread) (length inner) k level
+
+  -- the product x, as it is passed on
+  module _ (few : order ≤ 4) (x : ℤ) (is : x ≡ productOver) where
+    product-small : natAbs productOver ≤ 2 ^ 60
+    product-small = le-trans (differences-most ((outer ++ inner) ++ (a ∷ [])) order few k (h .sample)) (h .few)
+
+    product-read : toZ w64 (ofZ w64 x) ≡ productOver
+    product-read = rw is (toZ-ofZ (small-fits productOver product-small))
+
+    pub scaled-fits : ScaledFits (toZ w64 (ofZ w64 level)) (toZ w64 (ofZ w64 x)) (pos (factorial order))
+    scaled-fits =
+        rw (toZ-ofZ (h .level-fits), product-read)
+        (record {
+          divides = pos-below 0 (factorial order) (factorial-positive order);
+          unit = small-fits unit (le-trans (quotient-size (factorial order) productOver) product-small);
+          result = subst (SFits w64) value-is value-fits;
+        })
+
+    pub scaled-is :
+        (r : ℤ) → r ≡ toZ w64 (ofZ w64 level) *ℤ quotZ (toZ w64 (ofZ w64 x)) (pos (factorial order)) → toZ w64 (ofZ w64 r) ≡ value
+    scaled-is r e =
+        let given : r ≡ value = (rw (toZ-ofZ (h .level-fits), product-read) at e) ∙ sym value-is in
+        rw given (toZ-ofZ value-fits)

@@ -1,0 +1,51 @@
+-- `difference` meets its contract.
+use borrow.Author.Needs.{needs}
+use mathlib.Core.Path.{_≡_, _∙_}
+use mir.Syntax.{w64}
+use mir.Val.{toZ, ofZ, SFits}
+use mir.Facts.{toZ-ofZ}
+use lib.IntN.{ℤ, _-ℤ_}
+use Rattle.motion.proofs.closed_form.difference.Statement.{statement}
+use Rattle.motion.proofs.closed_form.difference.Tie as tie
+
+-- a difference that fits, of two numbers as they are read
+module _ (x y : ℤ) (h : SFits w64 x) (g : SFits w64 y) (fits : SFits w64 (x -ℤ y)) where
+  read-fits : SFits w64 (toZ w64 (ofZ w64 x) -ℤ toZ w64 (ofZ w64 y))
+  read-fits = rw (toZ-ofZ h, toZ-ofZ g) fits
+
+  read : toZ w64 (ofZ w64 (toZ w64 (ofZ w64 x) -ℤ toZ w64 (ofZ w64 y))) ≡ x -ℤ y
+  read = rw (toZ-ofZ h, toZ-ofZ g) (toZ-ofZ fits)
+
+sub-first : tie.Need-sub-first
+sub-first c = search needs
+
+sub-second : tie.Need-sub-second
+sub-second c = search needs
+
+sub-third : tie.Need-sub-third
+sub-third c = search needs
+
+sub-fourth : tie.Need-sub-fourth
+sub-fourth c =
+    let x = c .before .before .struct-told7 .given in
+    let y = c .struct-told8 .given in
+    let start = c .before .before .before .before .before .before .before .before .before .before .before .before .before .before .before .before in
+    let a = start .args in
+    read-fits (a .x .fourth) (a .y .fourth) (record { sfits = x .1 .1 .1 .0 .1 }) (record { sfits = y .1 .1 .1 .0 .1 }) (start .pre .fourth)
+
+returns : tie.Need-returns
+returns c =
+    let x = c .before .before .struct-told7 .given in
+    let y = c .struct-told8 .given in
+    let start = c .before .before .before .before .before .before .before .before .before .before .before .before .before .before .before .before in
+    let a = start .args in
+    λ i.
+    record {
+      first = read (a .x .first) (a .y .first) (record { sfits = x .0 .1 }) (record { sfits = y .0 .1 }) (start .pre .first) i;
+      second = read (a .x .second) (a .y .second) (record { sfits = x .1 .0 .1 }) (record { sfits = y .1 .0 .1 }) (start .pre .second) i;
+      third = read (a .x .third) (a .y .third) (record { sfits = x .1 .1 .0 .1 }) (record { sfits = y .1 .1 .0 .1 }) (start .pre .third) i;
+      fourth = read (a .x .fourth) (a .y .fourth) (record { sfits = x .1 .1 .1 .0 .1 }) (record { sfits = y .1 .1 .1 .0 .1 }) (start .pre .fourth) i;
+    }
+
+pub difference-spec : {M : Type 1} → statement M
+difference-spec = tie.close (tie.spec sub-first sub-second sub-third sub-fourth returns)
