@@ -1,5 +1,5 @@
--- The sums by the closed form, as the code has them: none leaves its range, and each is that from rest. Over any list of widths; the n-th sum
--- is that with n - 1 widths inside, so that no more of its size is asked than of the last position's.
+-- The sums by the closed form, as the code has them, over any list of widths: none leaves its range, and each is that from rest. The n-th
+-- sum is that with n - 1 widths inside, so that no more of its size is asked than of the last position's.
 use mathlib.Core.List.{List, [], _∷_, _++_}
 use mathlib.Core.Path.{_≡_, sym, ap, subst, _∙_}
 use Prim.Native.Nat.{ℕ, suc, _*_, _/_, _^_, _≤_}
@@ -46,6 +46,14 @@ pub record Sampled (a : ℕ) (ws : List ℕ) (level : ℤ) (k : ℕ) : Type 0 wh
   pub sample : k ≤ mostSamples
   pub level-fits : SFits w64 level
 
+abbrev pub read : ℤ → ℤ
+read x = toZ w64 (ofZ w64 x)
+
+-- `scaled` may be asked for the product x and the factorial m, and gives the value.
+pub record Scales (level x : ℤ) (m : ℕ) (value : ℤ) : Type 0 where
+  pub fits : ScaledFits (read level) (read x) (pos m)
+  pub is : (r : ℤ) → r ≡ read level *ℤ quotZ (read x) (pos m) → read r ≡ value
+
 module _ (a : ℕ) (outer inner : List ℕ) (level : ℤ) (k : ℕ) (h : Sampled a (outer ++ inner) level k) where
   abbrev order : ℕ
   order = suc (length inner)
@@ -69,25 +77,25 @@ module _ (a : ℕ) (outer inner : List ℕ) (level : ℤ) (k : ℕ) (h : Sampled
   value-is : value ≡ level *ℤ unit
   value-is = signed-form a (outer ++ inner) (h .spread) (length inner) k level
 
-  -- the product x, as it is passed on
   module _ (few : order ≤ 4) (x : ℤ) (is : x ≡ productOver) where
     product-small : natAbs productOver ≤ 2 ^ 60
     product-small = le-trans (differences-most ((outer ++ inner) ++ (a ∷ [])) order few k (h .sample)) (h .few)
 
-    product-read : toZ w64 (ofZ w64 x) ≡ productOver
+    product-read : read x ≡ productOver
     product-read = rw is (toZ-ofZ (small-fits productOver product-small))
 
-    pub scaled-fits : ScaledFits (toZ w64 (ofZ w64 level)) (toZ w64 (ofZ w64 x)) (pos (factorial order))
+    scaled-fits : ScaledFits level productOver (pos (factorial order))
     scaled-fits =
-        rw (toZ-ofZ (h .level-fits), product-read)
-        (record {
+        record {
           divides = pos-below 0 (factorial order) (factorial-positive order);
           unit = small-fits unit (le-trans (quotient-size (factorial order) productOver) product-small);
           result = subst (SFits w64) value-is value-fits;
-        })
+        }
 
-    pub scaled-is :
-        (r : ℤ) → r ≡ toZ w64 (ofZ w64 level) *ℤ quotZ (toZ w64 (ofZ w64 x)) (pos (factorial order)) → toZ w64 (ofZ w64 r) ≡ value
+    scaled-is : (r : ℤ) → r ≡ read level *ℤ quotZ (read x) (pos (factorial order)) → read r ≡ value
     scaled-is r e =
         let given : r ≡ value = (rw (toZ-ofZ (h .level-fits), product-read) at e) ∙ sym value-is in
         rw given (toZ-ofZ value-fits)
+
+    pub scales : Scales level x (factorial order) value
+    scales = record { fits = rw (toZ-ofZ (h .level-fits), product-read) scaled-fits; is = scaled-is }

@@ -80,14 +80,25 @@ module _ (ws : List ℕ) (room : most ws ≤ 2 ^ 60) (k l : ℕ) (h : k ≤ most
 
   products-fit : FewerFits (productsOver ws k) (productsOver ws l)
   products-fit =
-      record { first = both-fit 1 (omega arith); second = both-fit 2 (omega arith); third = both-fit 3 (omega arith); fourth = both-fit 4 (omega arith) }
+      record {
+        first = both-fit 1 (omega arith);
+        second = both-fit 2 (omega arith);
+        third = both-fit 3 (omega arith);
+        fourth = both-fit 4 (omega arith);
+      }
 
--- one width more: the same differences, the second w samples late
-module _ (ws : List ℕ) (w k l : ℕ) (x y : Products) (now : x ≡ productsOver ws k) (then : y ≡ productsOver ws l) (late : l ≡ k - w) where
+-- x and y are the same differences, y w samples late
+pub record Copies (ws : List ℕ) (w k : ℕ) (x y : Products) : Type 0 where
+  pub now : x ≡ productsOver ws k
+  pub late : y ≡ productsOver ws (k - w)
+
+module _ {ws : List ℕ} {w k : ℕ} {x y : Products} (both : Copies ws w k x y) where
   -- whichever is taken from the other
   pub fewer-fits : most ws ≤ 2 ^ 60 → k ≤ mostSamples → FewerFits x y × FewerFits y x
-  fewer-fits room h = rw (now, then) (products-fit ws room k l h (omega arith), products-fit ws room l k (omega arith) h)
+  fewer-fits room h =
+      rw (both .now, both .late) (products-fit ws room k (k - w) h (omega arith), products-fit ws room (k - w) k (omega arith) h)
 
+  -- one width more
   pub one-width-more : fewer x y ≡ productsOver (w ∷ ws) k
   unfolding differences
-  one-width-more = rw (now, then, late)
+  one-width-more = rw (both .now, both .late)

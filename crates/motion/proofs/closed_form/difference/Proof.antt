@@ -25,26 +25,32 @@ sub-second c = search needs
 sub-third : tie.Need-sub-third
 sub-third c = search needs
 
+-- where the function starts
+abbrev start : tie.After-struct-told8 → tie.Start
+start c =
+    let half = c .before .before .before .before .before .before .before .before in
+    half .before .before .before .before .before .before .before .before
+
 sub-fourth : tie.Need-sub-fourth
 sub-fourth c =
     let x = c .before .before .struct-told7 .given in
     let y = c .struct-told8 .given in
-    let start = c .before .before .before .before .before .before .before .before .before .before .before .before .before .before .before .before in
-    let a = start .args in
-    read-fits (a .x .fourth) (a .y .fourth) (record { sfits = x .1 .1 .1 .0 .1 }) (record { sfits = y .1 .1 .1 .0 .1 }) (start .pre .fourth)
+    let a = start c .args in
+    let p = start c .pre in
+    read-fits (a .x .fourth) (a .y .fourth) (record { sfits = x .1 .1 .1 .0 .1 }) (record { sfits = y .1 .1 .1 .0 .1 }) (p .fourth)
 
 returns : tie.Need-returns
 returns c =
     let x = c .before .before .struct-told7 .given in
     let y = c .struct-told8 .given in
-    let start = c .before .before .before .before .before .before .before .before .before .before .before .before .before .before .before .before in
-    let a = start .args in
+    let a = start c .args in
+    let p = start c .pre in
     λ i.
     record {
-      first = read (a .x .first) (a .y .first) (record { sfits = x .0 .1 }) (record { sfits = y .0 .1 }) (start .pre .first) i;
-      second = read (a .x .second) (a .y .second) (record { sfits = x .1 .0 .1 }) (record { sfits = y .1 .0 .1 }) (start .pre .second) i;
-      third = read (a .x .third) (a .y .third) (record { sfits = x .1 .1 .0 .1 }) (record { sfits = y .1 .1 .0 .1 }) (start .pre .third) i;
-      fourth = read (a .x .fourth) (a .y .fourth) (record { sfits = x .1 .1 .1 .0 .1 }) (record { sfits = y .1 .1 .1 .0 .1 }) (start .pre .fourth) i;
+      first = read (a .x .first) (a .y .first) (record { sfits = x .0 .1 }) (record { sfits = y .0 .1 }) (p .first) i;
+      second = read (a .x .second) (a .y .second) (record { sfits = x .1 .0 .1 }) (record { sfits = y .1 .0 .1 }) (p .second) i;
+      third = read (a .x .third) (a .y .third) (record { sfits = x .1 .1 .0 .1 }) (record { sfits = y .1 .1 .0 .1 }) (p .third) i;
+      fourth = read (a .x .fourth) (a .y .fourth) (record { sfits = x .1 .1 .1 .0 .1 }) (record { sfits = y .1 .1 .1 .0 .1 }) (p .fourth) i;
     }
 
 pub difference-spec : {M : Type 1} → statement M

@@ -30,8 +30,7 @@ jerk-at-requires : tie.Need-jerk-at-requires
 jerk-at-requires c κs = search needs
 
 -- the signed jerk, as it is passed on
-level-is :
-    (c : tie.After-struct-told) → toZ w64 (ofZ w64 (c .before .before .levels-of .result .positive)) ≡ c .before .before .levels-of .result .positive
+level-is : (c : tie.After-struct-told) → let r = c .before .before .levels-of .result in toZ w64 (ofZ w64 (r .positive)) ≡ r .positive
 level-is c = toZ-ofZ {w = w64} {z = c .before .before .levels-of .result .positive} (record { sfits = c .struct-told .given .0 .1 })
 
 state-in-third-requires : tie.Need-state-in-third-requires
@@ -51,7 +50,8 @@ returns c =
     let a = s .args in
     let ordered = s .pre .0 .ordered in
     let found = levels (d .before .before) in
-    let jerk-is = toZ-ofZ {w = w64} {z = j .result} (record { sfits = j .ok }) ∙ j .ensures ∙ ap (λ (f : ℕ → ℤ). f (a .k)) (directed-jerk ordered found) in
+    let passed = toZ-ofZ {w = w64} {z = j .result} (record { sfits = j .ok }) in
+    let jerk-is = passed ∙ j .ensures ∙ ap (λ (f : ℕ → ℤ). f (a .k)) (directed-jerk ordered found) in
     let sums-are = ap (λ (f : ℕ → ℤ). sumsAt f (a .k)) (directed-jerk ordered (signed-levels found (level-is d))) in
     let values =
     ap (valuesIn (pos 0)) (b .state-in-third .ensures ∙ ap₂ withJerk sums-are jerk-is)

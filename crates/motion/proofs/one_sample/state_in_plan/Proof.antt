@@ -4,17 +4,17 @@ use mathlib.Core.List.{[], _∷_}
 use mathlib.Core.Path.{ap}
 use Prim.Native.Nat.{ℕ}
 use native.Mathlib.Omega.{arith}
-use mir.Syntax.{w64}
-use mir.Val.{toZ, ofZ}
-use lib.IntN.{ℤ, pos}
+use lib.IntN.{ℤ, pos, negℤ}
 use Rattle.planner.specs.Outcome.{intervalsIn}
-use Rattle.profile.specs.Inner.Widths.{product}
+use Rattle.planner.specs.declared.Plan.{Plan}
+use Rattle.profile.specs.Inner.Repeated.{sums}
+use Rattle.profile.specs.Inner.Widths.{product, switchedBy}
 use Rattle.profile.specs.Inner.ClosedForm.{factorial}
 use Rattle.motion.specs.Inner.Planned.{widthsOf}
 use Rattle.motion.specs.Inner.ClosedForm.{ScaledFits}
 use Rattle.motion.specs.declared.closed_form.Products.{Products}
 use Rattle.motion.proofs.OrderedLaws.{spread}
-use Rattle.motion.proofs.ClosedStates.{Sampled, scaled-fits, scaled-is}
+use Rattle.motion.proofs.ClosedStates.{Sampled, read, Scales, scales}
 use Rattle.motion.proofs.one_sample.state_in_plan.Statement.{statement}
 use Rattle.motion.proofs.one_sample.state_in_plan.Tie as tie
 
@@ -30,25 +30,53 @@ sampled c =
       level-fits = c .fits .level;
     }
 
--- what `scaled` asks of a product and its factorial
-abbrev Fits : tie.After-over-four → (product : ℤ) → ℕ → Type 0
-Fits c product n = ScaledFits (toZ w64 (ofZ w64 (c .before .args .level))) (toZ w64 (ofZ w64 product)) (pos n)
+-- the products that were found
+module _ (c : tie.After-over-four) where
+  abbrev t : Plan
+  t = c .before .args .plan
 
--- all four products, so that one in another's place fails where it is wrong
-fits :
-    (c : tie.After-over-four)
-    → let p = c .over-four .result in
-    Fits c (p .first) 1 × Fits c (p .second) 2 × Fits c (p .third) 6 × Fits c (p .fourth) 24
-unfolding factorial
-fits c =
-    let t = c .before .args .plan in
-    let h = sampled (c .before) in
-    let is = c .over-four .ensures in (
-      scaled-fits (t .a) (t .e ∷ t .c ∷ t .b ∷ []) [] _ _ h (omega arith) _ (ap (λ (p : Products). p .first) is),
-      scaled-fits (t .a) (t .e ∷ t .c ∷ []) (t .b ∷ []) _ _ h (omega arith) _ (ap (λ (p : Products). p .second) is),
-      scaled-fits (t .a) (t .e ∷ []) (t .c ∷ t .b ∷ []) _ _ h (omega arith) _ (ap (λ (p : Products). p .third) is),
-      scaled-fits (t .a) [] (t .e ∷ t .c ∷ t .b ∷ []) _ _ h (omega arith) _ (ap (λ (p : Products). p .fourth) is),
-    )
+  abbrev level : ℤ
+  level = c .before .args .level
+
+  abbrev k : ℕ
+  k = c .before .args .k
+
+  abbrev value : ℕ → ℤ
+  value = switchedBy (t .a) (widthsOf (intervalsIn t)) level (negℤ level)
+
+  abbrev found : Products
+  found = c .over-four .result
+
+  first : Scales level (found .first) 1 (sums 1 value k)
+  unfolding factorial
+  first =
+      scales (t .a) (t .e ∷ t .c ∷ t .b ∷ []) [] level k (sampled (c .before)) (omega arith) _
+      (ap (λ (p : Products). p .first) (c .over-four .ensures))
+
+  second : Scales level (found .second) 2 (sums 2 value k)
+  unfolding factorial
+  second =
+      scales (t .a) (t .e ∷ t .c ∷ []) (t .b ∷ []) level k (sampled (c .before)) (omega arith) _
+      (ap (λ (p : Products). p .second) (c .over-four .ensures))
+
+  third : Scales level (found .third) 6 (sums 3 value k)
+  unfolding factorial
+  third =
+      scales (t .a) (t .e ∷ []) (t .c ∷ t .b ∷ []) level k (sampled (c .before)) (omega arith) _
+      (ap (λ (p : Products). p .third) (c .over-four .ensures))
+
+  fourth : Scales level (found .fourth) 24 (sums 4 value k)
+  unfolding factorial
+  fourth =
+      scales (t .a) [] (t .e ∷ t .c ∷ t .b ∷ []) level k (sampled (c .before)) (omega arith) _
+      (ap (λ (p : Products). p .fourth) (c .over-four .ensures))
+
+  abbrev Fits : ℤ → ℕ → Type 0
+  Fits product m = ScaledFits (read level) (read product) (pos m)
+
+  -- all of them, so that one in another's place fails where it is wrong
+  fits : Fits (found .first) 1 × Fits (found .second) 2 × Fits (found .third) 6 × Fits (found .fourth) 24
+  fits = (first .fits, second .fits, third .fits, fourth .fits)
 
 over-four-requires : tie.Need-over-four-requires
 over-four-requires c κs = search needs
@@ -66,29 +94,18 @@ scaled-requires-4 : tie.Need-scaled-requires-4
 scaled-requires-4 c κs = let all = fits (c .before .before .before .before .before .before .before) in search all
 
 returns : tie.Need-returns
-unfolding factorial
 returns c =
-    let b = c .before .before in
-    let f = b .before .before .before .before .before .before in
-    let t = f .before .args .plan in
-    let h = sampled (f .before) in
-    let is = f .over-four .ensures in
+    let f = c .before .before .before .before .before .before .before .before in
     λ i.
     record {
       sample = f .before .args .k;
-      jerk = scaled-is (t .a) (t .e ∷ t .c ∷ t .b ∷ []) [] _ _ h (omega arith) _ (ap (λ (p : Products). p .first) is) _ (b .before .before .before .before .scaled .ensures) i;
-      acceleration = scaled-is (t .a) (t .e ∷ t .c ∷ []) (t .b ∷ []) _ _ h (omega arith) _ (ap (λ (p : Products). p .second) is) _ (b .before .before .scaled2 .ensures) i;
-      velocity = scaled-is (t .a) (t .e ∷ []) (t .c ∷ t .b ∷ []) _ _ h (omega arith) _ (ap (λ (p : Products). p .third) is) _ (b .scaled3 .ensures) i;
-      position = scaled-is (t .a) [] (t .e ∷ t .c ∷ t .b ∷ []) _ _ h (omega arith) _ (ap (λ (p : Products). p .fourth) is) _ (c .scaled4 .ensures) i;
+      jerk = first f .is _ (c .before .before .before .before .before .before .scaled .ensures) i;
+      acceleration = second f .is _ (c .before .before .before .before .scaled2 .ensures) i;
+      velocity = third f .is _ (c .before .before .scaled3 .ensures) i;
+      position = fourth f .is _ (c .scaled4 .ensures) i;
     }
 
 pub state-in-plan-spec : {M : Type 1} → statement M
 state-in-plan-spec =
     tie.close
-    (tie.spec
-    over-four-requires
-    scaled-requires
-    scaled-requires-2
-    scaled-requires-3
-    scaled-requires-4
-    returns)
+    (tie.spec over-four-requires scaled-requires scaled-requires-2 scaled-requires-3 scaled-requires-4 returns)

@@ -4,18 +4,18 @@ use mathlib.Core.List.{[], _∷_}
 use mathlib.Core.Path.{ap}
 use Prim.Native.Nat.{ℕ}
 use native.Mathlib.Omega.{arith}
-use mir.Syntax.{w64}
-use mir.Val.{toZ, ofZ}
 use mir.Facts.{toZ-ofZ}
-use lib.IntN.{ℤ, pos}
+use lib.IntN.{ℤ, pos, negℤ}
 use Rattle.planner.specs.Third.{thirdIntervalsIn}
-use Rattle.profile.specs.Inner.Widths.{product}
+use Rattle.planner.specs.declared.ThirdPlan.{ThirdPlan}
+use Rattle.profile.specs.Inner.Repeated.{sums}
+use Rattle.profile.specs.Inner.Widths.{product, switchedBy}
 use Rattle.profile.specs.Inner.ClosedForm.{factorial}
 use Rattle.motion.specs.Inner.Planned.{thirdWidthsOf}
 use Rattle.motion.specs.Inner.ClosedForm.{ScaledFits}
 use Rattle.motion.specs.declared.closed_form.Products.{Products}
 use Rattle.motion.proofs.OrderedLaws.{third-spread}
-use Rattle.motion.proofs.ClosedStates.{Sampled, scaled-fits, scaled-is}
+use Rattle.motion.proofs.ClosedStates.{Sampled, read, Scales, scales}
 use Rattle.motion.proofs.one_sample.state_in_third.Statement.{statement}
 use Rattle.motion.proofs.one_sample.state_in_third.Tie as tie
 
@@ -31,24 +31,47 @@ sampled c =
       level-fits = c .fits .level;
     }
 
--- what `scaled` asks of a product and its factorial
-abbrev Fits : tie.After-over-three → (product : ℤ) → ℕ → Type 0
-Fits c product n = ScaledFits (toZ w64 (ofZ w64 (c .before .args .level))) (toZ w64 (ofZ w64 product)) (pos n)
+-- the products that were found
+module _ (c : tie.After-over-three) where
+  abbrev t : ThirdPlan
+  t = c .before .args .plan
 
--- all three products, so that one in another's place fails where it is wrong
-fits :
-    (c : tie.After-over-three)
-    → let p = c .over-three .result in
-    Fits c (p .first) 1 × Fits c (p .second) 2 × Fits c (p .third) 6
-unfolding factorial
-fits c =
-    let t = c .before .args .plan in
-    let h = sampled (c .before) in
-    let is = c .over-three .ensures in (
-      scaled-fits (t .b) (t .e ∷ t .c ∷ []) [] _ _ h (omega arith) _ (ap (λ (p : Products). p .first) is),
-      scaled-fits (t .b) (t .e ∷ []) (t .c ∷ []) _ _ h (omega arith) _ (ap (λ (p : Products). p .second) is),
-      scaled-fits (t .b) [] (t .e ∷ t .c ∷ []) _ _ h (omega arith) _ (ap (λ (p : Products). p .third) is),
-    )
+  abbrev level : ℤ
+  level = c .before .args .level
+
+  abbrev k : ℕ
+  k = c .before .args .k
+
+  abbrev value : ℕ → ℤ
+  value = switchedBy (t .b) (thirdWidthsOf (thirdIntervalsIn t)) level (negℤ level)
+
+  abbrev found : Products
+  found = c .over-three .result
+
+  first : Scales level (found .first) 1 (sums 1 value k)
+  unfolding factorial
+  first =
+      scales (t .b) (t .e ∷ t .c ∷ []) [] level k (sampled (c .before)) (omega arith) _
+      (ap (λ (p : Products). p .first) (c .over-three .ensures))
+
+  second : Scales level (found .second) 2 (sums 2 value k)
+  unfolding factorial
+  second =
+      scales (t .b) (t .e ∷ []) (t .c ∷ []) level k (sampled (c .before)) (omega arith) _
+      (ap (λ (p : Products). p .second) (c .over-three .ensures))
+
+  third : Scales level (found .third) 6 (sums 3 value k)
+  unfolding factorial
+  third =
+      scales (t .b) [] (t .e ∷ t .c ∷ []) level k (sampled (c .before)) (omega arith) _
+      (ap (λ (p : Products). p .third) (c .over-three .ensures))
+
+  abbrev Fits : ℤ → ℕ → Type 0
+  Fits product m = ScaledFits (read level) (read product) (pos m)
+
+  -- all of them, so that one in another's place fails where it is wrong
+  fits : Fits (found .first) 1 × Fits (found .second) 2 × Fits (found .third) 6
+  fits = (first .fits, second .fits, third .fits)
 
 over-three-requires : tie.Need-over-three-requires
 over-three-requires c κs = search needs
@@ -63,20 +86,15 @@ scaled-requires-3 : tie.Need-scaled-requires-3
 scaled-requires-3 c κs = let all = fits (c .before .before .before .before .before) in search all
 
 returns : tie.Need-returns
-unfolding factorial
 returns c =
-    let b = c .before .before in
-    let f = b .before .before .before .before in
-    let t = f .before .args .plan in
-    let h = sampled (f .before) in
-    let is = f .over-three .ensures in
+    let f = c .before .before .before .before .before .before in
     λ i.
     record {
       sample = f .before .args .k;
       jerk = toZ-ofZ (f .before .fits .jerk) i;
-      acceleration = scaled-is (t .b) (t .e ∷ t .c ∷ []) [] _ _ h (omega arith) _ (ap (λ (p : Products). p .first) is) _ (b .before .before .scaled .ensures) i;
-      velocity = scaled-is (t .b) (t .e ∷ []) (t .c ∷ []) _ _ h (omega arith) _ (ap (λ (p : Products). p .second) is) _ (b .scaled2 .ensures) i;
-      position = scaled-is (t .b) [] (t .e ∷ t .c ∷ []) _ _ h (omega arith) _ (ap (λ (p : Products). p .third) is) _ (c .scaled3 .ensures) i;
+      acceleration = first f .is _ (c .before .before .before .before .scaled .ensures) i;
+      velocity = second f .is _ (c .before .before .scaled2 .ensures) i;
+      position = third f .is _ (c .scaled3 .ensures) i;
     }
 
 pub state-in-third-spec : {M : Type 1} → statement M
