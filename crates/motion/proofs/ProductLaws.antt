@@ -1,6 +1,6 @@
 -- The falling products of a sample number as signed numbers, their differences over widths, and that none leaves its range.
 use mathlib.Core.List.{List, [], _∷_}
-use mathlib.Core.Path.{_≡_, refl, ap, ap₂, _∙_}
+use mathlib.Core.Path.{_≡_, ap, _∙_}
 use Prim.Native.Nat.{ℕ, zero, suc, _+_, _-_, _*_, _^_, _≤_}
 use native.Mathlib.Nat.{le-trans, mul-le-mul, pow-suc, pow-zero, pow-le-pow-right}
 use native.Mathlib.Omega.{arith}

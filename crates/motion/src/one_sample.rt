@@ -13,7 +13,6 @@ use planner::ThirdPlan;
 ghost use mathlib.Core.Path.{_≡_};
 ghost use Prim.Native.Nat.{_≤_};
 ghost use lib.IntN.{natAbs, negℤ};
-ghost use Rattle.profile.specs.Inner.Repeated.{sums};
 ghost use Rattle.profile.specs.Inner.Widths.{switchedBy};
 ghost use Rattle.planner.specs.Outcome.{intervalsIn};
 ghost use Rattle.planner.specs.Third.{thirdIntervalsIn};

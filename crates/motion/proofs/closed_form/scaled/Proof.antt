@@ -1,6 +1,5 @@
 -- `scaled` meets its contract.
 use borrow.Author.Needs.{needs}
-use mathlib.Core.Path.{_≡_}
 use Prim.Native.Nat.{_<_}
 use lib.Dec.{ltb→lt}
 use lib.IntN.{ℤ, pos, negsuc}
