@@ -1,26 +1,27 @@
 -- The samples of a planned set, one axis after the other: what a pass needs of the plans, and what it leaves.
-use mathlib.Core.Path.{_≡_, sym, ap, subst, _∙_}
-use mathlib.Core.List.{List, map}
-use Prim.Native.Nat.{ℕ, _+_, _≤_, _<_}
+use mathlib.Core.Bool.{true, true≢false}
+use mathlib.Core.Path.{_≡_, refl, sym, ap, subst, _∙_}
+use mathlib.Core.List.{List, _∷_, _++_, map}
+use Prim.Native.Nat.{ℕ, suc, _+_, _-_, _≤_, _<_}
 use native.Mathlib.Omega.{arith}
-use lib.ListN.{length, take, set, getD, length-set}
-use lib.Seq.{take-all}
-use Rattle.planner.specs.Result.{given, padded}
-use Rattle.planner.specs.Axes.{mostAxes, restPlan, axisPlan, commonSamples, PlansAxes}
+use native.Mathlib.Decide.{decLe}
+use lib.ListN.{length, take, set, getD, replicate, length-set, length-map}
+use lib.Seq.{take-all, length-take-le, set-at}
+use Rattle.planner.specs.Result.{Result, refused, given, padded}
+use Rattle.planner.specs.Axes.{mostAxes, restPlan, axisPlan, atRest, commonSamples, axesPlaces, PlansAxes}
 use Rattle.planner.specs.AxesClaims.{axisAt}
+use Rattle.planner.specs.Claims.{IsPlanned}
 use Rattle.planner.specs.declared.Move.{Move}
 use Rattle.planner.specs.declared.Plan.{Plan}
 use Rattle.planner.proofs.AxesAnswers.{count-most, all-accepted}
 use Rattle.planner.proofs.AxesAcceptance.{planned-common, axis-plan-at}
 use Rattle.planner.proofs.CountedLaws.{counted-at, counted-length, within}
 use Rattle.planner.proofs.PaddedLaws.{padded-next}
-use Rattle.motion.specs.Axes.{restSample, axesSampleOutcome, SamplesAxes}
+use Rattle.motion.specs.Axes.{restSample, axesSampleResult, SamplesPlaced, SamplesAxes}
 use Rattle.motion.specs.Inner.PlannedAxes.{AxisInRange, IsAxisSample}
 use Rattle.motion.specs.declared.Sample.{Sample}
-use Rattle.motion.specs.declared.AxesSample.{AxesSample}
-use Rattle.motion.specs.declared.AxesSampleAnswer.the-variants.{Sampled}
 use Rattle.motion.proofs.AxisSampling.{is-row, axis-in-range}
-use Rattle.motion.proofs.AxesSampling.{row, placed-rows, samples-given}
+use Rattle.motion.proofs.AxesSampling.{row, placed-rows, samples-refused, result-past}
 
 -- the places of so many axes at sample k
 module _ (count : ℕ) (moves : List Move) (k : ℕ) where
@@ -28,11 +29,49 @@ module _ (count : ℕ) (moves : List Move) (k : ℕ) where
   rows axes = padded mostAxes restSample (map (row count moves k) axes)
 
   -- the places before i hold the rule's rows
-  pub record SampledSoFar (sampled : AxesSample) (i : ℕ) : Type 0 where
-    pub answer-is : sampled .answer ≡ Sampled
-    pub samples-are : sampled .samples ≡ rows (take i (take count moves))
-    pub places : length (sampled .samples) ≡ mostAxes
-    pub before-end : i ≤ count
+  pub record SampledSoFar (end : ℕ) (samples : List Sample) (i : ℕ) : Type 0 where
+    pub samples-are : samples ≡ rows (take i (take count moves))
+    pub places : length samples ≡ mostAxes
+    pub before-end : i ≤ end
+
+  -- the set was planned, and has a sample k
+  pub record Reached (plans : List Plan) : Type 0 where
+    pub samples : ℕ
+    pub planned : PlansAxes count moves (given samples) plans
+    pub within-end : k ≤ samples
+
+  -- so it is where a sample is given
+  pub reached :
+      {plans : List Plan} (o : Result (ℕ × ℕ) ℕ) → PlansAxes count moves o plans → {r : Result (ℕ × ℕ) (Unit {0})}
+      → r ≡ axesSampleResult count moves k → IsPlanned r → Reached plans
+  reached (refused x) p q y = absurd (subst IsPlanned (q ∙ sym (samples-refused count moves k (p .outcome-is) .outcome-is)) y)
+  reached {plans} (given n) p {r} q y = by-end (decLe k n)
+    where
+      by-end : Dec (k ≤ n) → Reached plans
+      by-end (yes l) = record { samples = n; planned = p; within-end = l }
+      by-end (no x) = absurd (subst IsPlanned (q ∙ sym (result-past count moves k (p .outcome-is) (omega (arith, x)))) y)
+
+-- how many places are filled, by the outcome
+abbrev pub Ends : Result (ℕ × ℕ) (Unit {0}) → (count end : ℕ) → Type 0
+Ends r count end = (IsPlanned r → end ≡ count) × ((IsPlanned r → ⊥) → end ≡ 0)
+
+pub given-before : (r : Result (ℕ × ℕ) (Unit {0})) {count end i : ℕ} → Ends r count end → i < end → IsPlanned r
+given-before (refused x) e h = absurd (omega (arith, e .1 (λ x. x)))
+given-before (given x) e h = tt
+
+one-left : (i n : ℕ) → i < mostAxes → n ≡ i → mostAxes - n ≡ suc (mostAxes - suc i)
+one-left i n h q = omega arith
+
+-- a place that holds zeros is the same with zeros
+rest-left :
+    (front : List Sample) (i : ℕ) → length front ≡ i → i < mostAxes
+    → set (padded mostAxes restSample front) i restSample ≡ padded mostAxes restSample front
+rest-left front i len h =
+    let rest : replicate (mostAxes - length front) restSample ≡ restSample ∷ replicate (mostAxes - suc i) restSample =
+    ap (λ (n : ℕ). replicate n restSample) (one-left i (length front) h len) in
+    ap (λ (l : List Sample). set (front ++ l) i restSample) rest
+    ∙ set-at front restSample (replicate (mostAxes - suc i) restSample) restSample i len
+    ∙ sym (ap (λ (l : List Sample). front ++ l) rest)
 
 -- the set was planned, with the common duration n
 module _ {count n : ℕ} {moves : List Move} {plans : List Plan}
@@ -61,26 +100,54 @@ module _ {count n : ℕ} {moves : List Move} {plans : List Plan}
         (subst (λ (n : ℕ). k ≤ n) (planned-common count moves p) l))
 
     pub sampled-next :
-        {k : ℕ} {s : AxesSample} {x : Sample} → SampledSoFar count moves k s i
-        → IsAxisSample (axisAt moves i) (getD plans i restPlan) k x
-        → SampledSoFar count moves k (record { answer = s .answer; samples = set (s .samples) i x }) (i + 1)
-    sampled-next {k} {s} {x} f is =
+        {k end : ℕ} {s : List Sample} {x : Sample} → SampledSoFar count moves k end s i → i < end
+        → IsAxisSample (axisAt moves i) (getD plans i restPlan) k x → SampledSoFar count moves k end (set s i x) (i + 1)
+    sampled-next {k} {s = s} {x} f l is =
         let own : x ≡ row count moves k (axisAt axes i) =
         is-row (commonSamples axes) (axisAt moves i) k plan-is is ∙ ap (row count moves k) (sym same) in
         record {
-          answer-is = f .answer-is;
           samples-are =
               ap (λ (xs : List Sample). set xs i x) (f .samples-are)
               ∙ padded-next (row count moves k) mostAxes restSample axes _ i counted (omega (arith, h, most)) own;
-          places = length-set (s .samples) i x ∙ f .places;
-          before-end = omega (arith, h);
+          places = length-set s i x ∙ f .places;
+          before-end = omega (arith, l);
         }
 
+    -- the place of an axis at rest is left
+    pub rest-next :
+        {k end : ℕ} {s : List Sample} → SampledSoFar count moves k end s i → i < end → atRest (axisAt moves i) ≡ true
+        → SampledSoFar count moves k end s (i + 1)
+    rest-next {k} {end} {s} f l rests =
+        let front = map (row count moves k) (take i axes) in
+        let len : length front ≡ i = length-map (take i axes) (row count moves k) ∙ length-take-le i axes (omega (arith, counted)) in
+        let left : set s i restSample ≡ s =
+        ap (λ (xs : List Sample). set xs i restSample) (f .samples-are) ∙ rest-left front i len (omega (arith, h, most))
+        ∙ sym (f .samples-are) in
+        subst (λ (xs : List Sample). SampledSoFar count moves k end xs (i + 1)) left
+        (sampled-next f l (record { moving = λ m. absurd (true≢false (sym rests ∙ m)); resting = λ r. refl }))
+
+-- at the end the places are the rule's
+module _ {count k end i : ℕ} {moves : List Move} (sent : length moves ≡ mostAxes) {plans : List Plan} {s : List Sample}
+    (f : SampledSoFar count moves k end s i) (all : end ≤ i) where
+  all-placed :
+      (r : Result (ℕ × ℕ) (Unit {0})) → (IsPlanned r → Reached count moves k plans) → Ends r count end
+      → s ≡ axesPlaces count moves restSample (row count moves k) r
+  all-placed (refused x) p e =
+      let none : i ≡ 0 = omega (arith, e .1 (λ x. x), f .before-end) in
+      f .samples-are ∙ ap (λ (i : ℕ). rows count moves k (take i (take count moves))) none
+  all-placed (given x) p e =
+      let t = p tt in
+      let past : length (take count moves) ≤ i =
+      omega (arith, counted-length count moves sent (most sent (t .planned)), e .0 tt, all) in
+      f .samples-are ∙ ap (rows count moves k) (take-all i (take count moves) past)
+
   pub sampled-all :
-      {k i : ℕ} {s : AxesSample} → k ≤ n → SampledSoFar count moves k s i → count ≤ i
-      → SamplesAxes count moves k (axesSampleOutcome (s .answer)) (s .samples)
-  sampled-all {k} {i} l f all =
-      let end : length axes ≤ i = omega (arith, counted-length count moves sent most, all) in
-      rw (f .answer-is)
-      (samples-given count moves k (p .outcome-is) l
-      (placed-rows count moves k (f .samples-are ∙ ap (rows count moves k) (take-all i axes end))))
+      (o : Result (ℕ × ℕ) ℕ) → PlansAxes count moves o plans → (r : Result (ℕ × ℕ) (Unit {0})) → r ≡ axesSampleResult count moves k
+      → Ends r count end → SamplesAxes count moves k r s
+  sampled-all o p r q e =
+      record {
+        outcome-is = q;
+        placed =
+            subst (λ (r : Result (ℕ × ℕ) (Unit {0})). SamplesPlaced count moves k r s) q
+            (placed-rows count moves k (all-placed r (reached count moves k o p q) e));
+      }

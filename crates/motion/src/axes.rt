@@ -1,17 +1,43 @@
-// One sample of an axis of a set that was planned.
-use crate::REST;
-use crate::Sample;
-use crate::one_sample::sample_in_plan;
+// The answer of a set at a sample, and how many places it fills.
+use crate::AxesSampleAnswer;
+use crate::MotionRefusal;
+use planner::AxesAnswer;
 use planner::Move;
-use planner::Plan;
-ghost use Rattle.motion.specs.Inner.PlannedAxes.{AxisInRange, IsAxisSample};
+ghost use mathlib.Core.Path.{_≡_};
+ghost use mathlib.Core.List.{List};
+ghost use Prim.Native.Nat.{ℕ};
+ghost use Rattle.planner.specs.Axes.{axesOutcome, axesResult};
+ghost use Rattle.planner.specs.Claims.{IsPlanned};
+ghost use Rattle.motion.specs.Axes.{axesSampleOutcome, axesSampleResult};
 
-pub(crate) fn sample_axis(m: Move, plan: Plan, k: u64) -> Sample
-    requires { ⌜ AxisInRange m plan k ⌝ }
-    ensures { λ r. ⌜ IsAxisSample m plan k r ⌝ }
+// The planner's refusal of the set, or 9 for k past the end.
+pub(crate) fn axes_answer(answer: AxesAnswer, k: u64) -> AxesSampleAnswer
+    ensures { λ r. ⌜ ((count : ℕ) (moves : List Move) → axesOutcome answer ≡ axesResult count moves → axesSampleOutcome r ≡ axesSampleResult count moves k) ⌝ }
 {
-    if planner::magnitude(m.displacement) == 0 {
-        return REST;
+    match answer {
+        AxesAnswer::Planned { samples } => {
+            if samples < k {
+                AxesSampleAnswer::Refused {
+                    place: 0,
+                    refusal: MotionRefusal::PastEnd,
+                }
+            } else {
+                AxesSampleAnswer::Sampled
+            }
+        }
+        AxesAnswer::Refused { place, refusal } => AxesSampleAnswer::Refused {
+            place,
+            refusal: MotionRefusal::Unplanned(refusal),
+        },
     }
-    sample_in_plan(m.displacement, plan, k)
+}
+
+// All axes of the set have a sample, or none.
+pub(crate) fn sampled_places(answer: AxesSampleAnswer, count: u64) -> usize
+    ensures { λ r. ⌜ (IsPlanned (axesSampleOutcome answer) → r ≡ count) × ((IsPlanned (axesSampleOutcome answer) → ⊥) → r ≡ 0) ⌝ }
+{
+    match answer {
+        AxesSampleAnswer::Sampled => count as usize,
+        AxesSampleAnswer::Refused { place, refusal } => 0,
+    }
 }

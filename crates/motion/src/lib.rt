@@ -14,7 +14,8 @@ mod state;
 mod switched;
 mod third;
 
-use crate::axes::sample_axis;
+use crate::axes::axes_answer;
+use crate::axes::sampled_places;
 use crate::force::table::write_rows;
 use crate::one_sample::sample_in_plan;
 use crate::one_sample::sample_in_third;
@@ -23,12 +24,9 @@ use crate::planned::samples_in_third;
 use crate::positions::table::write_positions;
 use crate::reference::table::write_reference;
 use crate::reference::table::write_third_reference;
-use crate::refusal::no_samples;
 use crate::refusal::plan_refusal;
 use crate::refusal::third_refusal;
-use crate::refusal::unsampled_axes;
 use crate::third::table::write_third;
-use planner::AxesAnswer;
 use planner::MOST_AXES;
 use planner::Move;
 use planner::PlanAnswer;
@@ -126,26 +124,21 @@ pub fn sample_axes(count: u64, moves: [Move; MOST_AXES], k: u64) -> AxesSample
     ensures { λ r. ⌜ SamplesAxes count moves k (axesSampleOutcome (r .answer)) (r .samples) ⌝ }
 {
     let planned = planner::plan_axes(count, moves);
-    let answer = planned.answer;
-    let AxesAnswer::Planned { samples } = answer else {
-        return unsampled_axes(answer);
-    };
-    if samples < k {
-        return no_samples(0, MotionRefusal::PastEnd);
-    }
-    let mut sampled = AxesSample {
-        answer: AxesSampleAnswer::Sampled,
-        samples: [REST; MOST_AXES],
-    };
-    let end = count as usize;
+    let answer = axes_answer(planned.answer, k);
+    let end = sampled_places(answer, count);
+    let mut samples = [REST; MOST_AXES];
     let mut i = 0;
     while i < end {
         let m = moves[i];
-        let plan = planned.plans[i];
-        sampled.samples[i] = sample_axis(m, plan, k);
-        i += 1;
+        if planner::magnitude(m.displacement) == 0 {
+            i += 1;
+        } else {
+            let plan = planned.plans[i];
+            samples[i] = sample_in_plan(m.displacement, plan, k);
+            i += 1;
+        }
     }
-    sampled
+    AxesSample { answer, samples }
 }
 
 // Fills a table with the positions of a move at samples 0 to N, for the drive to play.

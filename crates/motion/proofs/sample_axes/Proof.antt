@@ -1,111 +1,138 @@
--- `sample_axes` meets its contract: the planner's answer, taken apart, leads to the refusal or to the loop over the axes, whose places are
--- filled one after the other.
-use borrow.Author.Needs.{needs}
-use mathlib.Core.Path.{refl, sym, subst, _∙_}
-use Prim.Native.Nat.{_-_, _≤_}
+-- `sample_axes` meets its contract: the answer is the rule's, and tells how many places the loop fills, one after the other.
+use borrow.Author.Tests.{eq-eqb, ne-eqb}
+use mathlib.Core.Bool.{true, false, true≢false}
+use mathlib.Core.Path.{_≡_, refl, sym, _∙_}
+use mir.Syntax.{w64}
+use mir.Facts.{toZ-ofZ}
+use lib.IntN.{natAbs}
+use Prim.Native.Nat.{_-_, _<_}
 use native.Mathlib.Omega.{arith}
-use Rattle.planner.specs.Result.{given}
+use Rattle.planner.specs.Axes.{mostAxes, atRest}
+use Rattle.planner.specs.AxesClaims.{axisAt}
+use Rattle.planner.specs.declared.Move.{Move}
 use Rattle.planner.specs.Claims.{IsPlanned}
-use Rattle.planner.specs.Axes.{mostAxes, axesOutcome, PlansAxes}
-use Rattle.planner.specs.declared.AxesAnswer.{AxesAnswer}
-use Rattle.motion.proofs.AxesSampling.{samples-refused, samples-past}
-use Rattle.motion.proofs.AxesSampleRuns.{SampledSoFar, most, axis-needs, sampled-next, sampled-all}
+use Rattle.motion.specs.Axes.{axesSampleOutcome}
+use Rattle.motion.proofs.AxesSampleRuns.{SampledSoFar, Reached, reached, given-before, most, axis-needs}
+use Rattle.motion.proofs.AxesSampleRuns.{sampled-next, rest-next, sampled-all}
 use Rattle.motion.proofs.sample_axes.Statement.{statement}
 use Rattle.motion.proofs.sample_axes.Tie as tie
 
 abbrev Inv-loop : tie.InvT-loop
-Inv-loop count k moves planned samples sampled₀ end i₀ sampled i = SampledSoFar count moves k sampled i
+Inv-loop count k moves planned answer end samples₀ i₀ samples i = SampledSoFar count moves k end samples i
 
 abbrev μ-loop : tie.MeasureT-loop
-μ-loop count k moves planned samples sampled₀ end i₀ sampled i = count - i
+μ-loop count k moves planned answer end samples₀ i₀ samples i = end - i
 
--- the set was planned, with this duration
-planned :
-    (c : tie.After-answer Inv-loop μ-loop)
-    → let a = c .before .before .before .args in
-    PlansAxes (a .count) (a .t2) (given (c .answer .given .0 .0)) (c .before .before .plan-axes .result .plans)
-planned c =
-    let a = c .before .before .before .args in
-    let plans = c .before .before .plan-axes .result .plans in
-    subst (λ (r : AxesAnswer). PlansAxes (a .count) (a .t2) (axesOutcome r) plans) (c .answer .given .1)
-    (c .before .before .plan-axes .ensures)
+-- within the loop the outcome is a sample, so the set was planned, and this is one of its axes
+module _ (c : tie.In-loop Inv-loop μ-loop) where
+  sampling : IsPlanned (axesSampleOutcome (c .before .before .before .axes-answer .result))
+  sampling =
+      given-before (axesSampleOutcome (c .before .before .before .axes-answer .result)) (c .before .before .sampled-places .ensures)
+      (c .loop-test .taken)
 
--- past the two tests
-at-most : (c : tie.Else1 Inv-loop μ-loop) → c .before .before .before .before .before .args .count ≤ mostAxes
-at-most c = most (omega arith) (planned (c .before .before))
+  there :
+      let a = c .before .before .before .before .before .args in
+      Reached (a .count) (a .t2) (a .k) (c .before .before .before .before .plan-axes .result .plans)
+  there =
+      let p = c .before .before .before .before .plan-axes .ensures in
+      reached _ _ _ _ p (c .before .before .before .axes-answer .ensures _ _ (p .outcome-is)) sampling
+
+  axis : c .before .loop .i < c .before .before .before .before .before .args .count
+  axis = omega (arith, c .loop-test .taken, c .before .before .sampled-places .ensures .0 sampling)
+
+  place : c .before .loop .i < mostAxes
+  place = omega (arith, axis, most (omega arith) (there .planned))
+
+-- the axis that is read, and whether it is at rest
+module _ (c : tie.After-magnitude Inv-loop μ-loop) where
+  abbrev read : Move
+  read = axisAt (c .before .before .before .before .before .before .before .before .args .t2) (c .before .before .before .before .loop .i)
+
+  size : c .magnitude .result ≡ natAbs (read .displacement)
+  size =
+      let back = toZ-ofZ {w = w64} {z = read .displacement} (record { sfits = c .before .struct-told .given .0 .1 }) in
+      rw back at (c .magnitude .ensures)
+
+rests : (c : tie.Then1 Inv-loop μ-loop) → atRest (read (c .before)) ≡ true
+rests c = eq-eqb _ _ (sym (size (c .before)) ∙ c .if1 .taken)
+
+moving : (c : tie.Else1 Inv-loop μ-loop) → atRest (read (c .before)) ≡ false
+moving c = ne-eqb _ _ (λ h. c .if1 .left (size (c .before) ∙ h))
 
 plan-axes-requires : tie.Need-plan-axes-requires Inv-loop μ-loop
 plan-axes-requires c κs = tt
 
-enum-known-answer : tie.Need-enum-known-answer Inv-loop μ-loop
-enum-known-answer c = search needs
+axes-answer-requires : tie.Need-axes-answer-requires Inv-loop μ-loop
+axes-answer-requires c κs = tt
 
-enum-told : tie.Need-enum-told Inv-loop μ-loop
-enum-told c = search needs
-
-unsampled-axes-requires : tie.Need-unsampled-axes-requires Inv-loop μ-loop
-unsampled-axes-requires c κs = λ p. subst (λ (r : AxesAnswer). IsPlanned (axesOutcome r)) (c .enum-told .given .1) p
-
-returns : tie.Need-returns Inv-loop μ-loop
-returns c =
-    let a = c .before .before .before .before .args in
-    let p = c .unsampled-axes .ensures in
-    rw (p .0 .refused-with, p .1)
-    (samples-refused (a .count) (a .t2) (a .k) (sym (p .0 .refused-by) ∙ c .before .before .before .plan-axes .ensures .outcome-is))
-
-no-samples-requires : tie.Need-no-samples-requires Inv-loop μ-loop
-no-samples-requires c κs = tt
-
-returns-2 : tie.Need-returns-2 Inv-loop μ-loop
-returns-2 c =
-    let a = c .before .before .before .before .before .before .args in
-    let p = c .no-samples .ensures in
-    rw (p .0, p .1)
-    (samples-past (a .count) (a .t2) (a .k) (planned (c .before .before .before) .outcome-is) (omega (arith, c .before .if1 .taken)))
+sampled-places-requires : tie.Need-sampled-places-requires Inv-loop μ-loop
+sampled-places-requires c κs = tt
 
 loop-holds : tie.Need-loop-holds Inv-loop μ-loop
-loop-holds c = record { answer-is = refl; samples-are = refl; places = refl; before-end = omega arith }
+loop-holds c = record { samples-are = refl; places = refl; before-end = omega arith }
 
 mul-m : tie.Need-mul-m Inv-loop μ-loop
-mul-m c = omega (arith, at-most (c .before .before))
+mul-m c = omega (arith, place c)
 
 array-copy-out-m : tie.Need-array-copy-out-m Inv-loop μ-loop
-array-copy-out-m c = omega (arith, at-most (c .before .before))
+array-copy-out-m c = omega (arith, place c)
 
-mul-plan : tie.Need-mul-plan Inv-loop μ-loop
-mul-plan c = omega (arith, at-most (c .before .before .before))
-
-element-copy-out-plan : tie.Need-element-copy-out-plan Inv-loop μ-loop
-element-copy-out-plan c = omega (arith, at-most (c .before .before .before))
-
-sample-axis-requires : tie.Need-sample-axis-requires Inv-loop μ-loop
-sample-axis-requires c κs =
-    let p = planned (c .before .before .before .before .before .before) in
-    axis-needs (omega arith) p (c .before .before .loop-test .taken) (omega (arith, c .before .before .before .before .if1 .left))
-
-mul-t21 : tie.Need-mul-t21 Inv-loop μ-loop
-mul-t21 c = omega (arith, at-most (c .before .before .before .before .before))
-
-element-set-from-sampled : tie.Need-element-set-from-sampled Inv-loop μ-loop
-element-set-from-sampled c =
-    omega (arith, at-most (c .before .before .before .before .before), c .before .before .before .before .loop .inv .places)
+magnitude-requires : tie.Need-magnitude-requires Inv-loop μ-loop
+magnitude-requires c κs = tt
 
 add-i : tie.Need-add-i Inv-loop μ-loop
-add-i c = omega (arith, at-most (c .before .before .before .before .before))
+add-i c = omega (arith, place (c .before .before .before .before))
 
 loop-less : tie.Need-loop-less Inv-loop μ-loop
 loop-less c = omega arith
 
 loop-again : tie.Need-loop-again Inv-loop μ-loop
 loop-again c =
-    let p = planned (c .before .before .before .before .before .before .before) in
-    sampled-next (omega arith) p (c .before .before .before .loop-test .taken) (c .before .before .before .before .loop .inv)
-    (c .sample-axis .ensures)
+    let l = c .before .before .before .before in
+    rest-next (omega arith) (there l .planned) (axis l) (l .before .loop .inv) (l .loop-test .taken) (rests c)
 
-returns-3 : tie.Need-returns-3 Inv-loop μ-loop
-returns-3 c =
-    let p = planned (c .before .before .before .before) in
-    sampled-all (omega arith) p (omega (arith, c .before .before .if1 .left)) (c .before .loop .inv) (omega arith)
+mul-plan : tie.Need-mul-plan Inv-loop μ-loop
+mul-plan c = omega (arith, place (c .before .before .before .before))
+
+element-copy-out-plan : tie.Need-element-copy-out-plan Inv-loop μ-loop
+element-copy-out-plan c = omega (arith, place (c .before .before .before .before))
+
+sample-in-plan-requires : tie.Need-sample-in-plan-requires Inv-loop μ-loop
+sample-in-plan-requires c κs =
+    let l = c .before .before .before .before .before .before in
+    let h = moving (c .before .before) in
+    let p = axis-needs (omega arith) (there l .planned) (axis l) (there l .within-end) in
+    (p .plan h, p .sample h)
+
+mul-samples : tie.Need-mul-samples Inv-loop μ-loop
+mul-samples c = omega (arith, place (c .before .before .before .before .before .before .before))
+
+array-set-from-samples : tie.Need-array-set-from-samples Inv-loop μ-loop
+array-set-from-samples c =
+    let l = c .before .before .before .before .before .before .before in
+    omega (arith, place l, l .before .loop .inv .places)
+
+add-i-2 : tie.Need-add-i-2 Inv-loop μ-loop
+add-i-2 c = omega (arith, place (c .before .before .before .before .before .before .before))
+
+loop-less-2 : tie.Need-loop-less-2 Inv-loop μ-loop
+loop-less-2 c = omega arith
+
+loop-again-2 : tie.Need-loop-again-2 Inv-loop μ-loop
+loop-again-2 c =
+    let l = c .before .before .before .before .before .before .before in
+    let m = moving (c .before .before .before) in
+    let X = read (c .before .before .before .before) .displacement in
+    let back = toZ-ofZ {w = w64} {z = X} (record { sfits = c .before .struct-told2 .given .0 .1 }) in
+    sampled-next (omega arith) (there l .planned) (axis l) (l .before .loop .inv) (l .loop-test .taken)
+    (record { moving = λ h. rw back at (c .sample-in-plan .ensures); resting = λ h. absurd (true≢false (sym h ∙ m)) })
+
+returns : tie.Need-returns Inv-loop μ-loop
+returns c =
+    let p = c .before .before .before .before .plan-axes .ensures in
+    let d = c .before .before .before .axes-answer in
+    sampled-all (omega arith) (c .before .loop .inv) (omega arith) _ p _ (d .ensures _ _ (p .outcome-is))
+    (c .before .before .sampled-places .ensures)
 
 pub sample-axes-spec : {M : Type 1} → statement M
 sample-axes-spec =
@@ -114,21 +141,21 @@ sample-axes-spec =
     Inv-loop
     μ-loop
     plan-axes-requires
-    enum-known-answer
-    enum-told
-    unsampled-axes-requires
-    returns
-    no-samples-requires
-    returns-2
+    axes-answer-requires
+    sampled-places-requires
     loop-holds
     mul-m
     array-copy-out-m
-    mul-plan
-    element-copy-out-plan
-    sample-axis-requires
-    mul-t21
-    element-set-from-sampled
+    magnitude-requires
     add-i
     loop-less
     loop-again
-    returns-3)
+    mul-plan
+    element-copy-out-plan
+    sample-in-plan-requires
+    mul-samples
+    array-set-from-samples
+    add-i-2
+    loop-less-2
+    loop-again-2
+    returns)

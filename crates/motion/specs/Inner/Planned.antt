@@ -7,7 +7,7 @@ use lib.IntN.{ℤ}
 use lib.ListN.{length, drop}
 use lib.Ieee.{Float}
 use Rattle.planner.specs.Intervals.{Intervals, N, P}
-use Rattle.planner.specs.Result.{Result, refused, given, Check, check, firstRefusal}
+use Rattle.planner.specs.Result.{Result, given, Check, check, firstRefusal}
 use Rattle.planner.specs.Outcome.{mostSamples, intervalsIn}
 use Rattle.planner.specs.Inner.Facts.{Ordered}
 use Rattle.planner.specs.Third.{ThirdIntervals, N₃, P₃, thirdIntervalsIn}
@@ -21,12 +21,6 @@ use Rattle.motion.specs.ForceRows.Doubled.{Doubled, doubledValues}
 use Rattle.motion.specs.ForceRows.Force.{forceRow}
 use Rattle.motion.specs.declared.Sample.{Sample}
 use Rattle.motion.specs.declared.state.State.{State}
-
--- The planner's refusal is passed on.
-pub record PassedOn {R A B : Type 0} (o : Result R A) (p : Result R B) : Type 0 where
-  pub refusal : R
-  pub refused-by : o ≡ refused refusal
-  pub refused-with : p ≡ refused refusal
 
 -- The widths of the intervals around a, the outermost first; in the third order around b.
 abbrev pub widthsOf : Intervals → List ℕ
