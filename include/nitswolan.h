@@ -230,7 +230,8 @@ typedef struct {
 /* Plans a move. Refusals 1 to 7. */
 nitswolan_plan_result nitswolan_plan_move(nitswolan_move move);
 
-/* The values of a move at a sample from 0 to N. A call takes the same time whichever sample is asked for. Refusals 1 to 7 and 9. */
+/* The values of a move at a sample from 0 to N. The time of a call does not grow with the sample asked for, here and in third order.
+ * Refusals 1 to 7 and 9. */
 nitswolan_sample_result nitswolan_sample_move(nitswolan_move move, uint64_t sample);
 
 /* Fills a table with the positions of a move at samples 0 to N, in units. `places` is the length of the table in
@@ -268,7 +269,7 @@ nitswolan_table_result nitswolan_fill_reference_third(nitswolan_move move, int64
 nitswolan_axes_plan_result nitswolan_plan_axes(nitswolan_axes axes);
 
 /* The values of every axis of a set at a sample from 0 to N. Refusals as for its plans, and then 9, with place 0. There are no tables for a
- * set: it is asked sample by sample. Each call plans the set again; as for a move, it takes the same time whichever sample is asked for. */
+ * set: it is asked sample by sample. Each call plans the set again; its time does not grow with the sample asked for. */
 nitswolan_axes_sample_result nitswolan_sample_axes(nitswolan_axes axes, uint64_t sample);
 
 /* Reads the text of a route sheet. Refusals 11 and 12. The moves are not planned: each may still be refused, 1 to 7. */

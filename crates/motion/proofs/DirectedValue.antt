@@ -42,8 +42,8 @@ module _ {X : ℤ} {D : ℕ} {levels : Levels} (l : AreLevels X D levels) {x : �
   pub signed-levels : AreLevels X D (record { positive = x; negative = negℤ x })
   signed-levels = record { positive-is = is ∙ l .positive-is; negative-is = ap negℤ (is ∙ l .positive-is) }
 
-  pub signed-size : natAbs x ≡ D
-  signed-size = ap natAbs (is ∙ l .positive-is) ∙ size-along X (pos D)
+  pub level-size : natAbs x ≡ D
+  level-size = ap natAbs (is ∙ l .positive-is) ∙ size-along X (pos D)
 
 pub directed-snap :
     {X : ℤ} {t : Intervals} {D : ℕ} {levels : Levels}

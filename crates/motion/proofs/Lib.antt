@@ -7,11 +7,12 @@ pub mod RoundedValues
 pub mod OrderedLaws
 pub mod RestLaws
 pub mod InnerSampleLaws
-pub mod ProductLaws
-pub mod ClosedStates
 pub mod StepLaws
 pub mod DirectedSizes
 pub mod StateLaws
+-- One sample by the closed form.
+pub mod FallingFactorials
+pub mod ClosedStates
 -- A table: runs of stores, the segments, and the rows that they leave.
 pub mod RunLaws
 pub mod SegmentLaws

@@ -5,9 +5,9 @@ ghost use Prim.Native.Nat.{_-_, _≤_};
 ghost use lib.IntN.{_*ℤ_};
 ghost use lib.Signed.{quotZ};
 ghost use Rattle.planner.specs.Outcome.{mostSamples};
-ghost use Rattle.motion.specs.Inner.ClosedForm.{productsOver, fewer, FewerFits, ScaledFits};
+ghost use Rattle.motion.specs.Inner.ClosedForm.{productsOver, differenceOf, DifferenceFits, ScaledFits};
 
-// The falling products k, k(k−1), k(k−1)(k−2) and k(k−1)(k−2)(k−3), or differences of such.
+// The falling factorials k, k(k−1), k(k−1)(k−2) and k(k−1)(k−2)(k−3), or differences of such.
 pub(crate) struct Products {
     pub first: i64,
     pub second: i64,
@@ -32,8 +32,8 @@ fn products_of(k: u64) -> Products
 }
 
 fn difference(x: Products, y: Products) -> Products
-    requires { ⌜ FewerFits x y ⌝ }
-    ensures { λ r. ⌜ r ≡ fewer x y ⌝ }
+    requires { ⌜ DifferenceFits x y ⌝ }
+    ensures { λ r. ⌜ r ≡ differenceOf x y ⌝ }
 {
     let first = x.first - y.first;
     let second = x.second - y.second;
@@ -54,7 +54,7 @@ fn delayed(k: u64, w: u64) -> u64
     if k < w { 0 } else { k - w }
 }
 
-// Each width takes away what the same differences are so many samples later.
+// The difference over one width, and over each width more: the value at k less the same value at k−w.
 fn over_one(a: u64, k: u64) -> Products
     requires { ⌜ k ≤ mostSamples ⌝ }
     ensures { λ r. ⌜ r ≡ productsOver (a ∷ []) k ⌝ }
@@ -91,7 +91,7 @@ pub(crate) fn over_four(a: u64, b: u64, c: u64, e: u64, k: u64) -> Products
     difference(now, late)
 }
 
-// A sum of the profile: the unit profile's, which is the product over its factorial, times the signed D.
+// A sum of the profile: that of the profile for D = 1, which is the product divided by its factorial, times the signed D.
 pub(crate) fn scaled(level: i64, product: i64, factorial: i64) -> i64
     requires { ⌜ ScaledFits level product factorial ⌝ }
     ensures { λ r. ⌜ r ≡ level *ℤ quotZ product factorial ⌝ }

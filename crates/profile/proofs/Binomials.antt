@@ -1,4 +1,4 @@
--- Binomials as sums of sums of 1, and as falling products over factorials.
+-- Binomials as sums of sums of 1, and as falling factorials over factorials.
 use mathlib.Core.Path.{_≡_, refl, sym, ap, _∙_}
 use Prim.Native.Nat.{ℕ, zero, suc, _+_, _-_, _*_, _≤_, _<_}
 use native.Mathlib.Nat.{mul-add, mul-assoc, mul-comm, mul-zero, zero-mul}

@@ -1,4 +1,5 @@
--- The closed form: over any list of widths the sums from rest are D times the differences of binomials.
+-- The closed form: over any list of widths, each at least the sum of those inside it, the sums from rest are D times the differences of
+-- binomials.
 use mathlib.Core.Path.{_≡_, refl, sym, ap, _∙_, fun-ext}
 use mathlib.Core.List.{List, [], _∷_, _++_}
 use Prim.Native.Nat.{ℕ, zero, suc, _-_, _*_, _/_, _<_}
@@ -82,7 +83,7 @@ unfolding factorial
 factorial-positive zero = omega arith
 factorial-positive (suc n) = mul-pos {m = suc n} {n = factorial n} (omega arith) (factorial-positive n)
 
--- by falling products: their differences divided by the factorial, times D
+-- by falling factorials: their differences divided by the factorial, times D
 pub by-products :
     (a : ℕ) (ws : List ℕ)
     → Spread a ws

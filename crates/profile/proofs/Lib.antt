@@ -16,11 +16,11 @@ pub mod SpreadLaws
 pub mod ProductLaws
 pub mod WidthLaws
 pub mod HalfCountLaw
+-- The closed form of its sums, likewise.
+pub mod Binomials
+pub mod ClosedForm
+pub mod SignedForm
 -- The profile of the paper.
 pub mod AnyOrder
 pub mod SumSizes
 pub mod Orders
--- The closed form of its sums.
-pub mod Binomials
-pub mod ClosedForm
-pub mod SignedForm

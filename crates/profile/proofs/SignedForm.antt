@@ -1,4 +1,5 @@
--- The closed form for a signed D: the theorem that the one-sample entries rest on, over any list of widths.
+-- The closed form for a signed D: the theorem that the one-sample entries rest on, over any list of widths, each at least the sum of those
+-- inside it.
 use mathlib.Core.Path.{_≡_, refl, sym, ap, _∙_, fun-ext}
 use mathlib.Core.List.{List, [], _∷_, _++_}
 use Prim.Native.Nat.{ℕ, zero, suc, _*_}

@@ -8,7 +8,7 @@ use mir.Val.{SFits}
 use Rattle.profile.specs.Inner.ClosedForm.{falling, differences}
 use Rattle.motion.specs.declared.closed_form.Products.{Products}
 
--- The differences of the four falling products over the widths ws, at sample k.
+-- The differences of the four falling factorials over the widths ws, at sample k.
 abbrev pub productsOver : List ℕ → ℕ → Products
 productsOver ws k =
     record {
@@ -18,8 +18,8 @@ productsOver ws k =
       fourth = differences ws (falling 4) k;
     }
 
-abbrev pub fewer : Products → Products → Products
-fewer x y =
+abbrev pub differenceOf : Products → Products → Products
+differenceOf x y =
     record {
       first = x .first -ℤ y .first;
       second = x .second -ℤ y .second;
@@ -28,7 +28,7 @@ fewer x y =
     }
 
 -- No difference leaves its range.
-pub record FewerFits (x y : Products) : Type 0 where
+pub record DifferenceFits (x y : Products) : Type 0 where
   pub first : SFits w64 (x .first -ℤ y .first)
   pub second : SFits w64 (x .second -ℤ y .second)
   pub third : SFits w64 (x .third -ℤ y .third)

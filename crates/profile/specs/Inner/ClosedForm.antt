@@ -1,4 +1,4 @@
--- The numbers of the closed form: falling products, and their differences over a list of widths. No rule of the paper stands here; that
+-- The numbers of the closed form: falling factorials, and their differences over a list of widths. No rule of the paper stands here; that
 -- the sums from rest come to them is a law.
 use mathlib.Core.List.{List, [], _∷_}
 use Prim.Native.Nat.{ℕ, zero, suc, _-_, _*_}

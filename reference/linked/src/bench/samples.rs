@@ -11,7 +11,7 @@ use reference::request::Request;
 /// A move and the number of a sample.
 type Ask = (Move, u64);
 
-/// How often a late sample may take the time of an early one, and of the plan.
+/// At most how many times an early one's time, and the plan's, a late sample takes.
 const EARLY_AIM: Option<f64> = Some(1.2);
 const PLAN_AIM: Option<f64> = Some(1.6);
 

@@ -13,8 +13,8 @@ module _ (x y : ℤ) (h : SFits w64 x) (g : SFits w64 y) (fits : SFits w64 (x -�
   read-fits : SFits w64 (toZ w64 (ofZ w64 x) -ℤ toZ w64 (ofZ w64 y))
   read-fits = rw (toZ-ofZ h, toZ-ofZ g) fits
 
-  read : toZ w64 (ofZ w64 (toZ w64 (ofZ w64 x) -ℤ toZ w64 (ofZ w64 y))) ≡ x -ℤ y
-  read = rw (toZ-ofZ h, toZ-ofZ g) (toZ-ofZ fits)
+  read-back : toZ w64 (ofZ w64 (toZ w64 (ofZ w64 x) -ℤ toZ w64 (ofZ w64 y))) ≡ x -ℤ y
+  read-back = rw (toZ-ofZ h, toZ-ofZ g) (toZ-ofZ fits)
 
 sub-first : tie.Need-sub-first
 sub-first c = search needs
@@ -31,6 +31,7 @@ start c =
     let half = c .before .before .before .before .before .before .before .before in
     half .before .before .before .before .before .before .before .before
 
+-- by hand from here on: the search does not reach as far as the fourth
 sub-fourth : tie.Need-sub-fourth
 sub-fourth c =
     let x = c .before .before .struct-told7 .given in
@@ -47,10 +48,11 @@ returns c =
     let p = start c .pre in
     λ i.
     record {
-      first = read (a .x .first) (a .y .first) (record { sfits = x .0 .1 }) (record { sfits = y .0 .1 }) (p .first) i;
-      second = read (a .x .second) (a .y .second) (record { sfits = x .1 .0 .1 }) (record { sfits = y .1 .0 .1 }) (p .second) i;
-      third = read (a .x .third) (a .y .third) (record { sfits = x .1 .1 .0 .1 }) (record { sfits = y .1 .1 .0 .1 }) (p .third) i;
-      fourth = read (a .x .fourth) (a .y .fourth) (record { sfits = x .1 .1 .1 .0 .1 }) (record { sfits = y .1 .1 .1 .0 .1 }) (p .fourth) i;
+      first = read-back (a .x .first) (a .y .first) (record { sfits = x .0 .1 }) (record { sfits = y .0 .1 }) (p .first) i;
+      second = read-back (a .x .second) (a .y .second) (record { sfits = x .1 .0 .1 }) (record { sfits = y .1 .0 .1 }) (p .second) i;
+      third = read-back (a .x .third) (a .y .third) (record { sfits = x .1 .1 .0 .1 }) (record { sfits = y .1 .1 .0 .1 }) (p .third) i;
+      fourth =
+          read-back (a .x .fourth) (a .y .fourth) (record { sfits = x .1 .1 .1 .0 .1 }) (record { sfits = y .1 .1 .1 .0 .1 }) (p .fourth) i;
     }
 
 pub difference-spec : {M : Type 1} → statement M

@@ -8,7 +8,7 @@ use mir.Val.{toZ, ofZ}
 use lib.IntN.{ℤ, pos, _-ℤ_, _*ℤ_}
 use Rattle.planner.specs.Outcome.{mostSamples}
 use Rattle.profile.specs.Inner.ClosedForm.{falling, differences}
-use Rattle.motion.proofs.ProductLaws.{sample-read, factor-fits, product-fits, product-read, next-product}
+use Rattle.motion.proofs.FallingFactorials.{sample-read, factor-fits, product-fits, product-read, next-product}
 use Rattle.motion.proofs.closed_form.products_of.Statement.{statement}
 use Rattle.motion.proofs.closed_form.products_of.Tie as tie
 

@@ -13,7 +13,7 @@ use Rattle.motion.specs.Inner.Planned.{valuesIn, IsSampleOf}
 use Rattle.motion.specs.Inner.SwitchedLevels.{AreLevels}
 use Rattle.motion.specs.Inner.Steps.{stateAt}
 use Rattle.motion.proofs.StateLaws.{state-is, snap-small}
-use Rattle.motion.proofs.DirectedValue.{signed-levels, signed-size, directed-snap}
+use Rattle.motion.proofs.DirectedValue.{signed-levels, level-size, directed-snap}
 use Rattle.motion.proofs.one_sample.sample_in_plan.Statement.{statement}
 use Rattle.motion.proofs.one_sample.sample_in_plan.Tie as tie
 
@@ -33,7 +33,7 @@ level-is c = toZ-ofZ {w = w64} {z = c .before .levels-of .result .positive} (rec
 state-in-plan-requires : tie.Need-state-in-plan-requires
 state-in-plan-requires c κs =
     let p = c .before .before .pre in
-    (p .0, (p .1, signed-size (levels (c .before)) (level-is c)))
+    (p .0, (p .1, level-size (levels (c .before)) (level-is c)))
 
 snap-at-requires : tie.Need-snap-at-requires
 snap-at-requires c κs = search needs

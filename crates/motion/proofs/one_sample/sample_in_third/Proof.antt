@@ -13,7 +13,7 @@ use Rattle.motion.specs.Inner.Planned.{valuesIn, IsSampleOf}
 use Rattle.motion.specs.Inner.SwitchedLevels.{AreLevels}
 use Rattle.motion.specs.Inner.Steps.{withJerk, sumsAt}
 use Rattle.motion.proofs.ThirdStates.{third-values, jerk-small}
-use Rattle.motion.proofs.DirectedValue.{signed-levels, signed-size, directed-jerk}
+use Rattle.motion.proofs.DirectedValue.{signed-levels, level-size, directed-jerk}
 use Rattle.motion.proofs.one_sample.sample_in_third.Statement.{statement}
 use Rattle.motion.proofs.one_sample.sample_in_third.Tie as tie
 
@@ -36,7 +36,7 @@ level-is c = toZ-ofZ {w = w64} {z = c .before .before .levels-of .result .positi
 state-in-third-requires : tie.Need-state-in-third-requires
 state-in-third-requires c κs =
     let p = c .before .before .before .pre in
-    (p .0, (p .1, signed-size (levels (c .before .before)) (level-is c)))
+    (p .0, (p .1, level-size (levels (c .before .before)) (level-is c)))
 
 sample-of-requires : tie.Need-sample-of-requires
 sample-of-requires c κs = search needs

@@ -25,7 +25,7 @@ sampled c =
       one = c .pre .0 .ordered .one-a;
       spread = spread (c .pre .0 .ordered);
       reach = rw (c .pre .1 .1) (c .pre .0 .reach);
-      few = omega arith;
+      room = omega arith;
       sample = omega (arith, c .pre .1 .0, c .pre .0 .samples);
       level-fits = c .fits .level;
     }
