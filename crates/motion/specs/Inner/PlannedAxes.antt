@@ -1,4 +1,4 @@
--- What the functions below the one-sample entry of a set need, and what they give.
+-- What one pass over an axis of a set needs of its plan, and what it leaves. Only proofs cite it.
 use mathlib.Core.Bool.{true, false}
 use mathlib.Core.Path.{_≡_}
 use Prim.Native.Nat.{ℕ, _≤_}
