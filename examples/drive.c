@@ -15,6 +15,7 @@ static const char *refusal_text(uint64_t refusal) {
   case NITSWOLAN_TOO_MANY_SAMPLES: return "the move takes too many samples";
   case NITSWOLAN_SHORT_TABLE: return "the table is too short";
   case NITSWOLAN_PAST_END: return "the sample is past the end of the move";
+  case NITSWOLAN_START_OR_END_RANGE: return "the start or the end is out of range";
   default: return "another refusal";
   }
 }

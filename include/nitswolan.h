@@ -7,9 +7,9 @@
  *
  * Every function takes all numbers that can be sent to it, returns, uses no heap and keeps no state. An answer's `refusal` is 0 where
  * there is none; at a refusal every other field is 0 (11 also gives its line, and a set of axes the place of the axis that is refused) and
- * every place of a table is as it was. Where several refusals apply the lowest is given, but 12 comes before 11, 13 before all others, and
- * in a set the first axis that is refused before those after it. Calls may run beside each other as long as no table or report buffer of
- * one overlaps what another is lent.
+ * every place of a table is as it was. Where several refusals apply the lowest is given, but 12 comes before 11, 13 before all others, 14
+ * after 6 and before 7, and in a set the first axis that is refused before those after it. Calls may run beside each other as long as no
+ * table or report buffer of one overlaps what another is lent.
  *
  * A table or a text of length 0 may be NULL; any other pointer is valid for its length and aligned as its type asks. The stack that each
  * function takes stands below. From the C library only memcpy, memmove and memset are used. The archive is for x86-64 Linux.
@@ -19,6 +19,10 @@
  *
  * A unit is 2^-40 of a count (a "grain"). N is the number of samples that a move takes: the carriage is at rest at sample 0 and from
  * sample N on. In third order a move may take another number than in fourth.
+ *
+ * Positions and counts are read from the rail's zero: a move begins at its start count and ends at the start plus the displacement. All
+ * else (plans, velocity, acceleration, jerk, snap and forces) is the same from every start. To go on where a move ended, send its end count
+ * as the start of the next: then the counts join, and the positions join but for the shortfall of the first move.
  */
 #ifndef NITSWOLAN_H
 #define NITSWOLAN_H
@@ -56,14 +60,14 @@ extern "C" {
 #define NITSWOLAN_STACK_FILL_POSITIONS 384
 #define NITSWOLAN_STACK_FILL_REFERENCE 384
 #define NITSWOLAN_STACK_FILL_FORCE 448
-#define NITSWOLAN_STACK_PLAN_AXES 2176
-#define NITSWOLAN_STACK_SAMPLE_AXES 3008
+#define NITSWOLAN_STACK_PLAN_AXES 2304
+#define NITSWOLAN_STACK_SAMPLE_AXES 3200
 #define NITSWOLAN_STACK_PLAN_THIRD 192
 #define NITSWOLAN_STACK_SAMPLE_THIRD 384
 #define NITSWOLAN_STACK_FILL_POSITIONS_THIRD 256
 #define NITSWOLAN_STACK_FILL_REFERENCE_THIRD 256
 #define NITSWOLAN_STACK_READ_SHEET 18112
-#define NITSWOLAN_STACK_REPORT 22912
+#define NITSWOLAN_STACK_REPORT 22976
 
 /* Refusals. */
 enum {
@@ -72,24 +76,31 @@ enum {
   NITSWOLAN_VELOCITY_RANGE = 3,     /* the bound on velocity is not in 1 to 2^50; likewise the next three */
   NITSWOLAN_ACCELERATION_RANGE = 4,
   NITSWOLAN_JERK_RANGE = 5,
-  NITSWOLAN_SNAP_RANGE = 6,       /* never given in third order */
-  NITSWOLAN_TOO_MANY_SAMPLES = 7, /* N is above 4,096 */
-  NITSWOLAN_SHORT_TABLE = 8,      /* the table has fewer than N+1 places, or N+2 for reference rows and forces */
-  NITSWOLAN_PAST_END = 9,         /* the sample asked for is above N */
-  NITSWOLAN_MACHINE_RANGE = 10,   /* a number of the machine is not finite or out of its range */
-  NITSWOLAN_SHEET_MALFORMED = 11, /* the sheet is malformed; `line` says where */
-  NITSWOLAN_SHEET_TOO_LONG = 12,  /* the sheet has more than 65,535 bytes */
-  NITSWOLAN_AXIS_COUNT = 13       /* the count of axes is not 1 to 8 */
+  NITSWOLAN_SNAP_RANGE = 6,         /* never given in third order */
+  NITSWOLAN_TOO_MANY_SAMPLES = 7,   /* N is above 4,096 */
+  NITSWOLAN_SHORT_TABLE = 8,        /* the table has fewer than N+1 places, or N+2 for reference rows and forces */
+  NITSWOLAN_PAST_END = 9,           /* the sample asked for is above N */
+  NITSWOLAN_MACHINE_RANGE = 10,     /* a number of the machine is not finite or out of its range */
+  NITSWOLAN_SHEET_MALFORMED = 11,   /* the sheet is malformed; `line` says where */
+  NITSWOLAN_SHEET_TOO_LONG = 12,    /* the sheet has more than 65,535 bytes */
+  NITSWOLAN_AXIS_COUNT = 13,        /* the count of axes is not 1 to 8 */
+  NITSWOLAN_START_OR_END_RANGE = 14 /* the start, or the start plus the displacement, is beyond +-1,048,576 counts */
 };
 
-/* A move: the displacement in counts, and the bounds on the size of velocity, acceleration, jerk and snap in units per sample, per
- * sample squared, cubed and to the fourth. The third order does not read `snap`, which may be any number there. */
+/* A move: the displacement in counts; the bounds on the size of velocity, acceleration, jerk and snap in units per sample, per sample
+ * squared, cubed and to the fourth; and the start in counts from the rail's zero. The third order does not read `snap`, which may be any
+ * number there.
+ *
+ * `start` is newer than the other fields. Braces that list the five numbers before it make it 0 (with -Wextra gcc warns of them), and so do
+ * designated initialisers that do not name it: such a program means what it meant, and has only to be built again with this header. One
+ * that sets the fields one by one begins with `nitswolan_move move = {0};`, or else it sends a start that it never wrote. */
 typedef struct {
   int64_t displacement;
   uint64_t velocity;
   uint64_t acceleration;
   uint64_t jerk;
   uint64_t snap;
+  int64_t start;
 } nitswolan_move;
 
 /* A machine of two masses: masses m1 and m2, dampings k1, k2 and k12, each 0 to 2^20, and the stiffness c, 2^-20 to 2^20. The drive is
@@ -104,9 +115,9 @@ typedef struct {
   double c;
 } nitswolan_machine;
 
-/* A set of axes that move together: how many, 1 to 8, and the move of each. Only the first `count` moves are read. All axes start at sample
- * 0 and end at sample N together; N is the largest that one of them needs alone. An axis with displacement 0 stays at rest, though its
- * bounds must be in range. */
+/* A set of axes that move together: how many, 1 to 8, and the move of each, with a start of its own. Only the first `count` moves are read.
+ * All axes begin at sample 0 and end at sample N together; N is the largest that one of them needs alone. An axis with displacement 0 stays
+ * at rest at its start, though its bounds and its start must be in range. */
 typedef struct {
   uint64_t count;
   nitswolan_move moves[NITSWOLAN_MOST_AXES];
@@ -137,10 +148,11 @@ typedef struct {
   uint64_t shortfall;
 } nitswolan_third_plan_result;
 
-/* The values at a sample in units; the position to the nearest count, halves away from 0; and the remainder in units, which is the position
- * minus NITSWOLAN_UNITS_PER_COUNT times the count. It lies from -2^39 to 2^39, half a count either way: above 0 where the position is
- * greater than the count, and below 0 where it is less, whatever the direction of the move. At sample N it is minus the shortfall if the
- * displacement is above 0, and plus the shortfall if it is below 0. The snap is 0 in third order. */
+/* The values at a sample in units, the position from the rail's zero; the position to the nearest count, halves away from the start; and
+ * the remainder in units, which is the position minus NITSWOLAN_UNITS_PER_COUNT times the count. It lies from -2^39 to 2^39, half a count
+ * either way: above 0 where the position is greater than the count, and below 0 where it is less, whatever the direction of the move. At
+ * sample N the count is the start plus the displacement, and the remainder is minus the shortfall if the displacement is above 0, and plus
+ * the shortfall if it is below 0. The snap is 0 in third order. */
 typedef struct {
   uint64_t refusal;
   int64_t snap;
@@ -173,7 +185,8 @@ typedef struct {
 } nitswolan_axes_plan_result;
 
 /* The values of an axis at a sample, as in nitswolan_sample_result. At the N of the set the remainder is minus or plus the shortfall of the
- * axis's plan in the set, which need not be that of its move alone. All seven are 0 for an axis at rest. */
+ * axis's plan in the set, which need not be that of its move alone. An axis at rest has the position and the count of its start, and 0 for
+ * the other five. */
 typedef struct {
   int64_t snap;
   int64_t jerk;
@@ -227,52 +240,55 @@ typedef struct {
   uint8_t bytes[NITSWOLAN_REPORT_BYTES];
 } nitswolan_report_buffer;
 
-/* Plans a move. Refusals 1 to 7. */
+/* Plans a move. Refusals 1 to 7 and 14. */
 nitswolan_plan_result nitswolan_plan_move(nitswolan_move move);
 
 /* The values of a move at a sample from 0 to N. The time of a call does not grow with the sample asked for, here and in third order.
- * Refusals 1 to 7 and 9. */
+ * Refusals 1 to 7, 9 and 14. */
 nitswolan_sample_result nitswolan_sample_move(nitswolan_move move, uint64_t sample);
 
-/* Fills a table with the positions of a move at samples 0 to N, in units. `places` is the length of the table in
- * elements, not bytes; likewise below. Refusals 1 to 8. */
+/* Fills a table with the positions of a move at samples 0 to N, in units from the rail's zero. `places` is the length of the table in
+ * elements, not bytes; likewise below. Refusals 1 to 8 and 14. */
 nitswolan_table_result nitswolan_fill_positions(nitswolan_move move, int64_t *table, size_t places);
 
 /* Fills a table with the reference rows of a move, for the feedback loop: rows 0 to N+1, which need N+2 places. Row k is the position at
- * sample k plus the position at k-1, where the position before sample 0 is 0, and after sample N it is still that at N. So row 0 is 0, row
- * N+1 is twice the last position, and a row is at most 2^61 in size. Rows are in doubled units: half of row k is the mean of the two
- * positions, at a steady speed the position half a sample before k. The measured position is late by as much, since it is sampled. At
- * sample k compare row k with twice the measured position in units; or halve the row, which loses half a unit if it is odd. Refusals 1 to
- * 8. */
+ * sample k plus the position at k-1, where the position before sample 0 is the start's, and after sample N it is still that at N. So row 0
+ * is twice the position of the start, row N+1 is twice the last position, and a row is at most 2^61 in size. Rows are in doubled units:
+ * half of row k is the mean of the two positions, at a steady speed the position half a sample before k. The measured position is late by
+ * as much, since it is sampled. At sample k compare row k with twice the measured position in units; or halve the row, which loses half a
+ * unit if it is odd. Refusals 1 to 8 and 14. */
 nitswolan_table_result nitswolan_fill_reference(nitswolan_move move, int64_t *table, size_t places);
 
 /* Fills a table with the feedforward forces of a move on a machine, rows 0 to N+1: row k belongs to sample k and is made of values up to
- * two samples before it, so there is one row more than positions. Refusals 1 to 8 and 10. */
+ * two samples before it, so there is one row more than positions. Refusals 1 to 8, 10 and 14. */
 nitswolan_table_result nitswolan_fill_force(nitswolan_move move, nitswolan_machine machine, double *table, size_t places);
 
-/* Plans a move in third order, for an old drive. Refusals 1 to 5 and 7. */
+/* Plans a move in third order, for an old drive. Refusals 1 to 5, 7 and 14. */
 nitswolan_third_plan_result nitswolan_plan_third(nitswolan_move move);
 
-/* The values of a move in third order at a sample from 0 to N. At sample 0 acceleration, velocity and position are 0, but the jerk already
- * has the size that the plan gives; at sample N jerk, acceleration and velocity are 0. Refusals 1 to 5, 7 and 9. */
+/* The values of a move in third order at a sample from 0 to N. At sample 0 acceleration and velocity are 0 and the position is the start's,
+ * but the jerk already has the size that the plan gives; at sample N jerk, acceleration and velocity are 0. Refusals 1 to 5, 7, 9 and
+ * 14. */
 nitswolan_sample_result nitswolan_sample_third(nitswolan_move move, uint64_t sample);
 
-/* Fills a table with the positions of a move in third order at samples 0 to N, in units. Refusals 1 to 5, 7 and 8. */
+/* Fills a table with the positions of a move in third order at samples 0 to N, in units from the rail's zero. Refusals 1 to 5, 7, 8 and
+ * 14. */
 nitswolan_table_result nitswolan_fill_positions_third(nitswolan_move move, int64_t *table, size_t places);
 
 /* Fills a table with the reference rows of a move in third order, for the feedback loop: rows 0 to N+1 in doubled units, made of the
- * third-order positions as nitswolan_fill_reference says. They need N+2 places. Refusals 1 to 5, 7 and 8. */
+ * third-order positions as nitswolan_fill_reference says. They need N+2 places. Refusals 1 to 5, 7, 8 and 14. */
 nitswolan_table_result nitswolan_fill_reference_third(nitswolan_move move, int64_t *table, size_t places);
 
-/* Plans a set of axes. Refusals 1 to 7 and 13: 13 before all others, then 1 if every displacement is 0, both with place 0. Otherwise the
- * first axis that is refused gives its own lowest number and its place: 2 to 7, or 3 to 6 if it is at rest. */
+/* Plans a set of axes. Refusals 1 to 7, 13 and 14: 13 before all others, then 1 if every displacement is 0, both with place 0. Otherwise
+ * the first axis that is refused gives its own first number and its place: 2 to 6, 14 or 7; or 3 to 6 or 14 if it is at rest. */
 nitswolan_axes_plan_result nitswolan_plan_axes(nitswolan_axes axes);
 
 /* The values of every axis of a set at a sample from 0 to N. Refusals as for its plans, and then 9, with place 0. There are no tables for a
  * set: it is asked sample by sample. Each call plans the set again; its time does not grow with the sample asked for. */
 nitswolan_axes_sample_result nitswolan_sample_axes(nitswolan_axes axes, uint64_t sample);
 
-/* Reads the text of a route sheet. Refusals 11 and 12. The moves are not planned: each may still be refused, 1 to 7. */
+/* Reads the text of a route sheet. Refusals 11 and 12. The moves are not planned: each may still be refused, 1 to 7. They have no start:
+ * as moves from start 0 they are never refused 14. */
 nitswolan_sheet_result nitswolan_read_sheet(const uint8_t *text, size_t length);
 
 /* Writes what `bottlerun` prints of a sheet's text, one line a move or the line of its refusal, and answers how many bytes that is; no

@@ -3,6 +3,7 @@
 
 pub mod axes;
 mod case;
+mod starts;
 mod third;
 
 pub use case::Case;
@@ -38,7 +39,7 @@ const SEARCHES: [&str; 10] = [
 ];
 
 pub fn plan(order: Order) -> Table {
-    joined([moves(order), edges(order)])
+    joined([moves(order), edges(order), starts::edges(order)])
 }
 
 pub fn sample(order: Order) -> Table {
@@ -50,7 +51,7 @@ pub fn positions(order: Order) -> Table {
 }
 
 pub fn reference(order: Order) -> Table {
-    joined([refusals([8]), moves(order), places(2), last_rows()])
+    joined([refusals([8]), moves(order), places(2), starts::outer_rows()])
 }
 
 pub fn force() -> Table {
@@ -80,14 +81,13 @@ fn searches(order: Order) -> impl Iterator<Item = (usize, &'static str)> {
     SEARCHES.into_iter().enumerate().skip(first)
 }
 
-/// The planner's refusals; both directions, the most samples and one more; each
-/// search, and each "never below", decides alone in a move that is accepted.
+/// The planner's refusals; both directions, from 0 and across it; the most samples and
+/// one more; each search, and each "never below", decides alone in a move that is
+/// accepted.
 fn moves(order: Order) -> Table {
     let mut table = vec![
-        accepted("X > 0", |case| case.x() > 0),
-        accepted("X < 0", |case| case.x() < 0),
         accepted("N = 4,096", |case| case.n() == 4_096),
-        row("N = 4,097", |case| case.n() == 4_097),
+        row("N = 4,097", |case| case.refusal() == 7 && case.n() == 4_097),
     ];
     for (search, name) in searches(order) {
         let decides = move |case: &Case| case.decides(search);
@@ -103,7 +103,8 @@ fn moves(order: Order) -> Table {
         Order::Third => third::moves(),
         Order::Fourth => refusals([6]),
     };
-    joined([refusals([1, 2, 3, 4, 5, 7]), table, own])
+    let refused = refusals([1, 2, 3, 4, 5, 14, 7]);
+    joined([refused, starts::moves(), table, own])
 }
 
 /// Each search with equality; products that do not fit 64 bits, a quotient that
@@ -150,17 +151,27 @@ fn ends() -> Table {
     ]
 }
 
-/// 7 before 9; what rounding does.
+/// 9 beside the planner's last; what rounding does.
 fn samples() -> Table {
-    let both = row("7 and 9", |case| case.refusal() == 7 && case.k() > case.n());
-    let alone = |name, are: Rounds| row(name, move |case| are(case.rounding(1)));
-    joined([vec![both], roundings(alone)])
+    let start = |case: &Case| case.ends()[0] as i64;
+    let alone = |name, are: Rounds| accepted(name, move |case| are(case.rounding(1, start(case))));
+    joined([beside(9, |case| case.k() > case.n()), roundings(alone)])
 }
 
-/// Whether a position and its remainder are as a condition says.
-type Rounds = Box<dyn Fn([i64; 2]) -> bool>;
+/// A refusal that comes after the planner's last two, beside each of them.
+fn beside(later: i128, applies: fn(&Case) -> bool) -> Table {
+    let both = |number| {
+        let name = format!("{number} and {later}");
+        row(name, move |case| case.refusal() == number && applies(case))
+    };
+    [14, 7].map(both).into()
+}
 
-/// Positions at a half count and a unit beside it, and remainders of either sign, in
+/// Whether a position, its distance from the start and its remainder are as a condition
+/// says.
+type Rounds = Box<dyn Fn([i64; 3]) -> bool>;
+
+/// Distances at a half count and a unit beside it, and remainders of either sign, in
 /// both directions; `condition` says whose they are.
 fn roundings(condition: impl Fn(String, Rounds) -> Condition) -> Table {
     let mut table = Table::new();
@@ -168,12 +179,19 @@ fn roundings(condition: impl Fn(String, Rounds) -> Condition) -> Table {
         for distance in [-1, 0, 1] {
             let name = format!("{distance} units from a half count, direction {direction}");
             let wanted = [direction, distance];
-            let near = move |[at, _]: [i64; 2]| [at.signum(), beyond_half(at)] == wanted;
+            let near = move |[_, far, _]: [i64; 3]| [far.signum(), beyond_half(far)] == wanted;
             table.push(condition(name, Box::new(near)));
         }
+        // Away from the start is towards the rail's zero.
+        let name = format!("a half count before zero, direction {direction}");
+        let wanted = [-direction, direction, 0];
+        let before =
+            move |[at, far, _]: [i64; 3]| [at.signum(), far.signum(), beyond_half(far)] == wanted;
+        table.push(condition(name, Box::new(before)));
         for sign in [1, -1] {
             let name = format!("a remainder of sign {sign}, direction {direction}");
-            let left = move |both: [i64; 2]| both.map(i64::signum) == [direction, sign];
+            let left =
+                move |[_, far, left]: [i64; 3]| [far, left].map(i64::signum) == [direction, sign];
             table.push(condition(name, Box::new(left)));
         }
     }
@@ -183,37 +201,28 @@ fn roundings(condition: impl Fn(String, Rounds) -> Condition) -> Table {
 /// Tables for N and `more` rows.
 fn places(more: i128) -> Table {
     let short = |case: &Case| case.refusal() == 8;
-    vec![
-        row("7 and 8", |case| case.refusal() == 7 && case.places() == 0),
+    let table = vec![
         row("no places", move |case| short(case) && case.places() == 0),
         row("one place too few", move |case| {
             short(case) && case.places() == case.n() as i128 + more - 1
         }),
         accepted("just enough", |case| case.places() == case.field(1)),
         accepted("more places", |case| case.places() > case.field(1)),
-    ]
-}
-
-/// Reference rows that pass the span of positions; an end that is short of X, where
-/// twice the position that is held is not twice X.
-fn last_rows() -> Table {
-    let last = |case: &Case| case.outcome.rows.last().map_or(0, |row| *row as i64);
-    vec![
-        accepted("the longest way", |case| case.x().abs() == 1 << 20),
-        accepted("short of X", move |case| last(case) != case.x() << 41),
-    ]
+    ];
+    joined([beside(8, |case| case.places() == 0), table])
 }
 
 /// Both drives, and a machine that is wrong beside a lower refusal.
 fn machines() -> Table {
     let k12 = |case: &Case| case.machine()[4];
-    let wrong = |case: &Case| case.wrong_machine();
-    vec![
-        row("7 and 10", move |case| case.refusal() == 7 && wrong(case)),
-        row("8 and 10", move |case| case.refusal() == 8 && wrong(case)),
+    let table = vec![
+        row("8 and 10", |case| {
+            case.refusal() == 8 && case.wrong_machine()
+        }),
         accepted("rigid", move |case| k12(case) == 0.0),
         accepted("filtered", move |case| k12(case) > 1e-30),
-    ]
+    ];
+    joined([beside(10, |case| case.wrong_machine()), table])
 }
 
 /// Rows that would be others with a wrong rule: a k12 below 2^-1022 taken for 0, the

@@ -9,6 +9,7 @@ pub mod moves;
 pub mod paper;
 mod random;
 pub mod samples;
+pub mod starts;
 pub mod texts;
 
 pub use random::Random;

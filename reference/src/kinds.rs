@@ -2,7 +2,7 @@
 //! them must contain, and how many there are.
 
 use crate::conditions::{self, Case, Condition};
-use crate::draw::{axes, axes_edges, machines, moves, paper, samples, texts, Random};
+use crate::draw::{axes, axes_edges, machines, paper, samples, starts, texts, Random};
 use crate::planner::{Move, Order};
 use crate::request::{Outcome, Request};
 use std::vec::IntoIter;
@@ -25,7 +25,7 @@ pub const KINDS: [Kind; 12] = [
         calls: 1_000_000,
         stored: 120,
         fixed: Vec::new,
-        draw: |random| Request::Plan(Order::Fourth, moves::any(Order::Fourth, random)),
+        draw: |random| Request::Plan(Order::Fourth, starts::any(Order::Fourth, random)),
         conditions: || conditions::plan(Order::Fourth),
     },
     Kind {
@@ -58,7 +58,7 @@ pub const KINDS: [Kind; 12] = [
         stored: 120,
         fixed: Vec::new,
         draw: |random| {
-            let motion = moves::any(Order::Fourth, random);
+            let motion = starts::any(Order::Fourth, random);
             let places = samples::places(Order::Fourth, &motion, 2, random);
             Request::Force(motion, machines::any(random), places)
         },
@@ -104,7 +104,7 @@ pub const KINDS: [Kind; 12] = [
         calls: 1_000_000,
         stored: 40,
         fixed: || third(|motion| Request::Plan(Order::Third, motion)),
-        draw: |random| Request::Plan(Order::Third, moves::any(Order::Third, random)),
+        draw: |random| Request::Plan(Order::Third, starts::any(Order::Third, random)),
         conditions: || conditions::plan(Order::Third),
     },
     Kind {
@@ -151,7 +151,7 @@ fn with_places(
     random: &mut Random,
     request: impl FnOnce(Order, Move, u64) -> Request,
 ) -> Request {
-    let motion = moves::any(order, random);
+    let motion = starts::any(order, random);
     let places = samples::places(order, &motion, more, random);
     request(order, motion, places)
 }

@@ -21,7 +21,7 @@ pub const MOST_SAMPLES: u128 = 4096;
 /// What the planner says about a move.
 #[derive(Clone, Copy, Debug, PartialEq, Eq)]
 pub enum Answer {
-    /// The number of the refusal, 1 to 7.
+    /// The number of the refusal, 1 to 7 or 14.
     Refused(u8),
     Planned(Plan),
 }
@@ -36,7 +36,7 @@ impl Answer {
     }
 }
 
-/// Plans a move, or refuses it with the lowest number that applies.
+/// Plans a move, or refuses it with the first that applies of 1 to 6, 14 and 7.
 pub fn plan(order: Order, motion: &Move) -> Answer {
     match Intervals::of(order, motion) {
         Err(number) => Answer::Refused(number),

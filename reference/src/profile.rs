@@ -15,7 +15,7 @@ pub use sample::{sample, sample_axes, Sample, SampleAnswer};
 pub use segments::{segments, Segment, SEGMENT_COUNT};
 pub use state::State;
 
-use crate::planner::{durations, plan, Answer, Move, Order, Plan};
+use crate::planner::{durations, plan, Answer, Move, Order, Plan, UNITS_PER_COUNT};
 use std::iter;
 
 /// Reference rows and force rows are 0 to N+1: two more than N.
@@ -24,23 +24,25 @@ pub const MORE_ROWS: u64 = 2;
 /// What a table entry says.
 #[derive(Clone, Copy, Debug, PartialEq, Eq)]
 pub enum TableAnswer {
-    /// The number of the refusal, 1 to 8, or 10 for a machine; nothing was
+    /// The number of the refusal, 1 to 8 or 14, or 10 for a machine; nothing was
     /// written.
     Refused(u8),
     /// The number of rows written, from place 0 on.
     Written(u64),
 }
 
-/// The segments of a planned move, with the signs of its direction.
+/// The segments of a planned move, with the signs of its direction, and where it starts.
 pub struct Profile {
     order: Order,
+    /// In counts.
+    pub start: i64,
     pub segments: [Segment; SEGMENT_COUNT],
     /// The number of the last sample (N in the paper).
     pub samples: u64,
 }
 
 impl Profile {
-    /// The profile of a move, or the planner's refusal, 1 to 7.
+    /// The profile of a move, or the planner's refusal, 1 to 7 or 14.
     pub fn of(order: Order, motion: &Move) -> Result<Profile, u8> {
         match plan(order, motion) {
             Answer::Refused(number) => Err(number),
@@ -55,13 +57,14 @@ impl Profile {
         let switched = plan.switched as i64 * motion.displacement.signum();
         Profile {
             order,
+            start: motion.start,
             segments: segments(order, durations(plan.intervals), switched),
             samples: plan.samples(),
         }
     }
 
     /// The profile of a move for a table of N and `more` rows, if they fit this
-    /// many places, or the refusal, 1 to 8.
+    /// many places, or the refusal, 1 to 8 or 14.
     pub(crate) fn fitting(
         order: Order,
         motion: &Move,
@@ -75,12 +78,21 @@ impl Profile {
         Ok(profile)
     }
 
+    /// The position at sample 0, and before it.
+    pub fn first_position(&self) -> i64 {
+        UNITS_PER_COUNT as i64 * self.start
+    }
+
     /// The snap and the state at each sample from 0 to N.
     pub fn states(&self) -> impl Iterator<Item = (i64, State)> + '_ {
         let in_segment = |segment: &Segment| iter::repeat_n(segment.switched, segment.samples);
         // The segments end at sample N-1; at N the snap, or the jerk, is 0.
         let values = self.segments.iter().flat_map(in_segment).chain([0]);
-        values.scan(State::REST, |state, switched| {
+        let at_rest = State {
+            position: self.first_position(),
+            ..State::default()
+        };
+        values.scan(at_rest, |state, switched| {
             let [snap, jerk] = self.order.highest(switched, state.jerk);
             let here = State { jerk, ..*state };
             *state = here.next(snap);

@@ -10,7 +10,7 @@ const G: u64 = 1 << 40;
 
 type Fill = fn(Order, &Move, &mut [i64]) -> TableAnswer;
 
-/// Accepted moves in both directions, with p q r s zero and not.
+/// Accepted moves in both directions, from 0 and across it, with p q r s zero and not.
 fn moves(order: Order) -> impl Iterator<Item = Move> {
     // In fourth order the second has D = 2, nearly 3: few moves fall short as much.
     let mut list = vec![(1 << 20, [1 << 50; 4]), (1, [1 << 50, 1 << 50, 1 << 50, 3])];
@@ -25,7 +25,9 @@ fn moves(order: Order) -> impl Iterator<Item = Move> {
         list.extend([(x, bounds), (x - 1, bounds)]);
     }
     let both = |(x, bounds): (i64, _)| [Move::new(x, bounds), Move::new(-x, bounds)];
-    list.into_iter().flat_map(both)
+    let back = |motion: Move| motion.starting_at(-motion.displacement / 2);
+    let each = list.into_iter().flat_map(both);
+    each.flat_map(move |motion| [motion, back(motion)])
 }
 
 /// The samples of a move up to the first that is refused.
@@ -75,9 +77,11 @@ fn assert_profile(order: Order, motion: &Move, plan: &Plan, samples: &[Sample]) 
     assert!(samples.iter().all(above));
 }
 
-fn assert_sums_from_rest(order: Order, samples: &[Sample]) {
+/// The position's sum begins at the start (document 02, request 7).
+fn assert_sums_from_rest(order: Order, motion: &Move, samples: &[Sample]) {
     let first = switched(order) + 1;
-    assert!((first..5).all(|value| samples[0].values()[value] == 0));
+    assert!((first..4).all(|value| samples[0].values()[value] == 0));
+    assert_eq!(samples[0].position, motion.start * G as i64);
     for pair in samples.windows(2) {
         let (here, next) = (pair[0].values(), pair[1].values());
         assert!((first..5).all(|value| next[value] == here[value] + here[value - 1]));
@@ -93,13 +97,13 @@ fn assert_bounds(motion: &Move, at: &Sample) {
     assert!(at.velocity * motion.displacement.signum() >= 0);
 }
 
-/// E is the position of the profile with W for what is switched.
+/// E is the position of the profile with W for what is switched, read from the start.
 fn assert_half_count(order: Order, motion: &Move, plan: &Plan, samples: &[Sample]) {
     let [w, p] = way_and_product(order, motion, plan);
     let mut exact = [0; 5];
     for (at, sign) in samples.iter().zip(signs(order, plan)) {
-        let position = at.position * motion.displacement.signum();
-        let behind = exact[4] - p * i128::from(position);
+        let distance = at.position - motion.start * G as i64;
+        let behind = exact[4] - p * i128::from(distance * motion.displacement.signum());
         assert!(behind >= 0 && 2 * behind < i128::from(G) * p);
         exact[switched(order)] = i128::from(sign) * w;
         for value in (switched(order) + 1..5).rev() {
@@ -117,13 +121,13 @@ fn assert_remainder(at: &Sample) {
 /// With the remainders of document 02's request 2.
 fn assert_demand_3(order: Order, motion: &Move, plan: &Plan, samples: &[Sample]) {
     assert_profile(order, motion, plan, samples);
-    assert_sums_from_rest(order, samples);
+    assert_sums_from_rest(order, motion, samples);
     samples.iter().for_each(|at| assert_bounds(motion, at));
     assert_half_count(order, motion, plan, samples);
     samples.iter().for_each(assert_remainder);
     let end = samples[samples.len() - 1];
     assert_eq!(end.values()[1..4], [0; 3]);
-    assert_eq!(end.count, motion.displacement);
+    assert_eq!(end.count, motion.start + motion.displacement);
     let short = plan.shortfall as i64 * motion.displacement.signum();
     assert_eq!(end.remainder, -short);
 }
@@ -183,9 +187,12 @@ fn tables_of_positions_and_of_reference_rows() {
         let samples = samples(order, &motion);
         let positions: Vec<i64> = samples.iter().map(|at| at.position).collect();
         assert_table(position_table, order, &motion, &positions);
-        // Document 02, request 4: before sample 0 it is 0, after N the last is held.
+        // Document 02, requests 4 and 7: before sample 0 it is the start's, after N the
+        // last is held.
         let here = positions.iter().chain(positions.last());
-        let before = [0].iter().chain(&positions);
+        let before = [motion.start * G as i64]
+            .into_iter()
+            .chain(positions.clone());
         let rows: Vec<i64> = here.zip(before).map(|(x, y)| x + y).collect();
         assert_table(reference_table, order, &motion, &rows);
         let ahead = |pair: &[i64]| (pair[1] - pair[0]) * motion.displacement.signum() >= 0;
@@ -245,7 +252,7 @@ fn a_refused_table_is_kept() {
 #[test]
 fn nearest_counts_and_remainders_with_halves_away_from_zero() {
     let numbers = |position| {
-        let Rounding { count, remainder } = rounded(position);
+        let Rounding { count, remainder } = rounded(0, position);
         [count, remainder]
     };
     let (g, half) = (G as i64, 1 << 39);

@@ -34,4 +34,7 @@ void check_empty(checks *tally);
 /* The longest moves and the farthest. */
 void check_longest(checks *tally);
 
+/* Programs that were written before a move had a start. */
+void check_earlier(checks *tally);
+
 #endif

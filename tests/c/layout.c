@@ -10,6 +10,7 @@ int main(void) {
   check_sheets(&tally);
   check_empty(&tally);
   check_longest(&tally);
+  check_earlier(&tally);
   if (tally.failed > 0) {
     printf("layout: %u of %u checks failed\n", tally.failed, tally.failed + tally.passed);
     return 1;

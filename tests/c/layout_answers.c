@@ -44,10 +44,12 @@ static void check_third_plan(checks *tally, areas *both) {
   check_zeros(tally, "the rest of a refused third-order plan", both, THIRD_PLAN_SAMPLES, THIRD_PLAN_SIZE);
 }
 
-/* The samples of a move, backward: the sums of the snap, or in third order of the jerk, whose signs at samples 0 to N are written out. */
+/* The samples of a move, backward: the sums of the snap, or in third order of the jerk, whose signs at samples 0 to N are written out. The
+ * move starts at 40 and passes 0. */
 static void check_samples(checks *tally, areas *both, const order *of, raw_move move, uint64_t size, const int *signs, uint64_t samples) {
-  wanted_sample at = {0, 0, 0, 0, 0};
+  wanted_sample at = wanted_from(40);
   int64_t *const summed = of == &third ? &at.jerk : &at.snap;
+  move.words[MOVE_START / 8] = 40;
   move.words[MOVE_DISPLACEMENT / 8] = -move.words[MOVE_DISPLACEMENT / 8];
   for (uint64_t k = 0; k <= samples; k++) {
     *summed = -signs[k] * (int64_t)size;
@@ -68,13 +70,15 @@ static void check_table(checks *tally, const char *what, raw_table_result answer
   check(tally, what, answer.words[TABLE_ROWS / 8], rows);
 }
 
-/* Lends so many places of a table for the first move, forward or backward. The rows that are wanted, in counts, must stand from place 0 on,
- * and every other place, lent or not, must be as it was. */
+/* Lends so many places of a table for the first move from 100, or backward from -100. The rows that are wanted, in counts, must stand from
+ * place 0 on, and every other place, lent or not, must be as it was. */
 static void check_lent(checks *tally, const char *what, fill_table fill, int direction, size_t places, const int *counts, uint64_t rows) {
   int64_t table[12];
   raw_move move = first_move();
+  move.words[MOVE_START / 8] = 100;
   if (direction < 0) {
     move.words[MOVE_DISPLACEMENT / 8] = -move.words[MOVE_DISPLACEMENT / 8];
+    move.words[MOVE_START / 8] = -move.words[MOVE_START / 8];
   }
   memset(table, 0x55, sizeof table);
   check_table(tally, what, fill(move, table, places), rows == 0 ? 8 : 0, rows);
@@ -92,12 +96,13 @@ static void check_rows(checks *tally, const char *what, fill_table fill, const i
   }
 }
 
-/* The tables of the first move in counts. A reference row is the position plus the one before, and the last position is held once more. */
+/* The tables of the first move in counts. A reference row is the position plus the one before, which is the start's before sample 0, and
+ * the last position is held once more. */
 static void check_tables(checks *tally) {
-  static const int positions[] = {0, 0, 0, 0, 1, 3, 5, 7, 8};
-  static const int reference[] = {0, 0, 0, 0, 1, 4, 8, 12, 15, 16};
-  static const int third_positions[] = {0, 0, 0, 1, 3, 5, 7, 8};
-  static const int third_reference[] = {0, 0, 0, 1, 4, 8, 12, 15, 16};
+  static const int positions[] = {100, 100, 100, 100, 101, 103, 105, 107, 108};
+  static const int reference[] = {200, 200, 200, 200, 201, 204, 208, 212, 215, 216};
+  static const int third_positions[] = {100, 100, 100, 101, 103, 105, 107, 108};
+  static const int third_reference[] = {200, 200, 200, 201, 204, 208, 212, 215, 216};
   check_rows(tally, "positions", nitswolan_fill_positions, positions, 9);
   check_rows(tally, "reference rows", nitswolan_fill_reference, reference, 10);
   check_rows(tally, "third-order positions", nitswolan_fill_positions_third, third_positions, 8);

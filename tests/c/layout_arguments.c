@@ -54,6 +54,13 @@ static void check_move(checks *tally) {
   check_move_field(tally, "move.acceleration 2^50+1", MOVE_ACCELERATION, above, 4);
   check_move_field(tally, "move.jerk 2^50+1", MOVE_JERK, above, 5);
   check_move_field(tally, "move.snap 2^50+1", MOVE_SNAP, above, 6);
+  /* The first move goes 8 counts up. */
+  check_move_field(tally, "move.start -1048576", MOVE_START, (uint64_t)INT64_C(-1048576), 0);
+  check_move_field(tally, "move.start -1048577", MOVE_START, (uint64_t)INT64_C(-1048577), 14);
+  check_move_field(tally, "move.start 1048568", MOVE_START, 1048568, 0);
+  check_move_field(tally, "move.start 1048569", MOVE_START, 1048569, 14);
+  check_move_field(tally, "move.start -2^63", MOVE_START, UINT64_C(1) << 63, 14);
+  check_move_field(tally, "move.start 2^63-1", MOVE_START, (uint64_t)INT64_MAX, 14);
 }
 
 /* A row of the first move's forces. Row 2 is (2 q1 + q2)/2 and row 3 is (-2 q1 + q2 + 2 q3 + q4)/2 before the drive, in counts. */

@@ -3,6 +3,11 @@
 
 enum { SAMPLES = 18 };
 
+/* Where the axis at place k starts. */
+static int64_t start_of(size_t k) {
+  return 3 * (int64_t)k - 10;
+}
+
 /* Eight axes: the sixth move to check by at one place, and at each other place k, from 0, a move of -k counts; so that at place 0 is at
  * rest. These need 8 to 11 samples alone. */
 static raw_axes eight_axes(size_t sixth) {
@@ -10,7 +15,9 @@ static raw_axes eight_axes(size_t sixth) {
   axes.words[AXES_COUNT / 8] = MOST_AXES;
   for (size_t k = 0; k < MOST_AXES; k++) {
     const raw_move other = {{-(uint64_t)k, G, G, G, G}};
-    set_axis(&axes, k, k == sixth ? sixth_move() : other);
+    raw_move axis = k == sixth ? sixth_move() : other;
+    axis.words[MOVE_START / 8] = (uint64_t)start_of(k);
+    set_axis(&axes, k, axis);
   }
   return axes;
 }
@@ -39,7 +46,10 @@ static void check_plans(checks *tally, areas *both, size_t sixth) {
 }
 
 static void check_samples(checks *tally, areas *both, size_t sixth) {
-  wanted_sample at[MOST_AXES] = {{0, 0, 0, 0, 0}};
+  wanted_sample at[MOST_AXES];
+  for (size_t k = 0; k < MOST_AXES; k++) {
+    at[k] = wanted_from(start_of(k));
+  }
   for (uint64_t sample = 0; sample <= SAMPLES; sample++) {
     CALL_TWICE(both, nitswolan_sample_axes, eight_axes(sixth), sample);
     check_extent(tally, "bytes of the samples of a set", both, AXES_SAMPLE_SIZE);
@@ -69,37 +79,40 @@ static void check_refusal(checks *tally, areas *both, raw_axes axes, uint64_t re
 
 /* Each field of the axis at place k is changed alone, and that axis is named. */
 static void check_fields(checks *tally, areas *both, size_t k) {
-  static const size_t fields[] = {MOVE_DISPLACEMENT, MOVE_VELOCITY, MOVE_ACCELERATION, MOVE_JERK, MOVE_SNAP};
+  static const size_t fields[] = {MOVE_DISPLACEMENT, MOVE_VELOCITY, MOVE_ACCELERATION, MOVE_JERK, MOVE_SNAP, MOVE_START};
+  static const uint64_t refusals[] = {2, 3, 4, 5, 6, 14};
   for (size_t field = 0; field < sizeof fields / sizeof *fields; field++) {
     raw_axes axes = eight_axes(0);
     axes.words[(AXES_MOVES + k * MOVE_SIZE + fields[field]) / 8] = UINT64_C(1) << 62;
-    check_refusal(tally, both, axes, 2 + field, k + 1);
+    check_refusal(tally, both, axes, refusals[field], k + 1);
   }
 }
 
-/* At rest, the axis at place k is refused for each bound that is out of range. */
+/* At rest, the axis at place k is refused for each bound that is out of range, and for its start. */
 static void check_rest(checks *tally, areas *both, size_t k) {
-  static const size_t bounds[] = {MOVE_VELOCITY, MOVE_ACCELERATION, MOVE_JERK, MOVE_SNAP};
+  static const size_t fields[] = {MOVE_VELOCITY, MOVE_ACCELERATION, MOVE_JERK, MOVE_SNAP, MOVE_START};
+  static const uint64_t refusals[] = {3, 4, 5, 6, 14};
   static const uint64_t wrong[] = {0, (UINT64_C(1) << 50) + 1};
-  for (size_t bound = 0; bound < sizeof bounds / sizeof *bounds; bound++) {
+  static const uint64_t outside[] = {1048577, (uint64_t)INT64_C(-1048577)};
+  for (size_t field = 0; field < sizeof fields / sizeof *fields; field++) {
     for (size_t edge = 0; edge < sizeof wrong / sizeof *wrong; edge++) {
       raw_axes axes = eight_axes(0);
       set_axis(&axes, k, (raw_move){{0, G, G, G, G}});
-      axes.words[(AXES_MOVES + k * MOVE_SIZE + bounds[bound]) / 8] = wrong[edge];
-      check_refusal(tally, both, axes, 3 + bound, k + 1);
+      axes.words[(AXES_MOVES + k * MOVE_SIZE + fields[field]) / 8] = fields[field] == MOVE_START ? outside[edge] : wrong[edge];
+      check_refusal(tally, both, axes, refusals[field], k + 1);
     }
   }
 }
 
-/* With every axis at rest the set is refused, whatever the bounds are. */
+/* With every axis at rest the set is refused, whatever the bounds and the starts are. */
 static void check_all_at_rest(checks *tally, areas *both) {
   static const uint64_t bounds[] = {G, 0, (UINT64_C(1) << 50) + 1};
   for (size_t k = 0; k < sizeof bounds / sizeof *bounds; k++) {
     const uint64_t bound = bounds[k];
     raw_axes axes = eight_axes(0);
     axes.words[AXES_COUNT / 8] = 2;
-    set_axis(&axes, 0, (raw_move){{0, bound, bound, bound, bound}});
-    set_axis(&axes, 1, (raw_move){{0, bound, bound, bound, bound}});
+    set_axis(&axes, 0, (raw_move){{0, bound, bound, bound, bound, bound}});
+    set_axis(&axes, 1, (raw_move){{0, bound, bound, bound, bound, bound}});
     check_refusal(tally, both, axes, 1, 0);
   }
 }
@@ -136,9 +149,10 @@ static void check_few(checks *tally, areas *both, size_t count, raw_move later) 
 }
 
 void check_axes(checks *tally) {
-  /* 4,096 samples, and one more, for which it would be refused. */
+  /* 4,096 samples, and one more, for which it would be refused; and an end outside the span. */
   const raw_move longer = {{4092, G, G, G, G}};
   const raw_move too_long = {{4093, G, G, G, G}};
+  const raw_move outside = {{8, G, G, G, G, 1048576}};
   areas both;
   for (size_t k = 0; k < MOST_AXES; k++) {
     check_plans(tally, &both, k);
@@ -147,6 +161,7 @@ void check_axes(checks *tally) {
     check_rest(tally, &both, k);
     check_few(tally, &both, k + 1, longer);
     check_few(tally, &both, k + 1, too_long);
+    check_few(tally, &both, k + 1, outside);
   }
   check_all_at_rest(tally, &both);
   check_counts(tally, &both);

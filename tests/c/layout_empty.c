@@ -6,7 +6,7 @@
 
 static void check_tables(checks *tally, int64_t displacement, uint64_t refusal) {
   const uint64_t count = (uint64_t)NITSWOLAN_UNITS_PER_COUNT;
-  const nitswolan_move move = {displacement, 2 * count, count, count, count};
+  const nitswolan_move move = {displacement, 2 * count, count, count, count, 0};
   const nitswolan_machine machine = {2, 0, 0, 0, 0, 1};
   check(tally, "positions at NULL", nitswolan_fill_positions(move, NULL, 0).refusal, refusal);
   check(tally, "reference at NULL", nitswolan_fill_reference(move, NULL, 0).refusal, refusal);

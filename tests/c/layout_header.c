@@ -41,6 +41,7 @@ static void check_given(checks *tally) {
   FIELD(nitswolan_move, acceleration, MOVE_ACCELERATION);
   FIELD(nitswolan_move, jerk, MOVE_JERK);
   FIELD(nitswolan_move, snap, MOVE_SNAP);
+  FIELD(nitswolan_move, start, MOVE_START);
   SIZE(nitswolan_machine, MACHINE_SIZE);
   FIELD(nitswolan_machine, m1, MACHINE_M1);
   FIELD(nitswolan_machine, m2, MACHINE_M2);
@@ -115,9 +116,10 @@ static void check_sheet(checks *tally) {
 /* The names of the refusals, in the order of the paper's numbers. */
 static void check_refusals(checks *tally) {
   static const uint64_t named[] = {
-    NITSWOLAN_NO_DISPLACEMENT, NITSWOLAN_DISPLACEMENT_RANGE, NITSWOLAN_VELOCITY_RANGE,   NITSWOLAN_ACCELERATION_RANGE, NITSWOLAN_JERK_RANGE,
-    NITSWOLAN_SNAP_RANGE,      NITSWOLAN_TOO_MANY_SAMPLES,   NITSWOLAN_SHORT_TABLE,      NITSWOLAN_PAST_END,           NITSWOLAN_MACHINE_RANGE,
-    NITSWOLAN_SHEET_MALFORMED, NITSWOLAN_SHEET_TOO_LONG,     NITSWOLAN_AXIS_COUNT,
+    NITSWOLAN_NO_DISPLACEMENT, NITSWOLAN_DISPLACEMENT_RANGE, NITSWOLAN_VELOCITY_RANGE,   NITSWOLAN_ACCELERATION_RANGE,
+    NITSWOLAN_JERK_RANGE,      NITSWOLAN_SNAP_RANGE,         NITSWOLAN_TOO_MANY_SAMPLES, NITSWOLAN_SHORT_TABLE,
+    NITSWOLAN_PAST_END,        NITSWOLAN_MACHINE_RANGE,      NITSWOLAN_SHEET_MALFORMED,  NITSWOLAN_SHEET_TOO_LONG,
+    NITSWOLAN_AXIS_COUNT,      NITSWOLAN_START_OR_END_RANGE,
   };
   for (uint64_t i = 0; i < sizeof named / sizeof named[0]; i++) {
     check(tally, "the number of a refusal's name", named[i], i + 1);

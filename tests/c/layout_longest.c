@@ -1,4 +1,4 @@
-/* The longest moves fill as many places as the header says, and the farthest ones have the largest reference rows. */
+/* The longest moves fill as many places as the header says, and the farthest ones, in way or in start, have the largest reference rows. */
 #include "nitswolan.h"
 
 #include "checks.h"
@@ -9,8 +9,8 @@ static const uint64_t count = (uint64_t)NITSWOLAN_UNITS_PER_COUNT;
 static void check_places(checks *tally) {
   static int64_t table[NITSWOLAN_MOST_REFERENCE];
   static double forces[NITSWOLAN_MOST_FORCES];
-  const nitswolan_move move = {4092, count, count, count, count};
-  const nitswolan_move third = {4094, count, count, count, count};
+  const nitswolan_move move = {4092, count, count, count, count, 0};
+  const nitswolan_move third = {4094, count, count, count, count, 0};
   const nitswolan_machine machine = {2, 0, 0, 0, 0, 1};
   check(tally, "most positions", nitswolan_fill_positions(move, table, NITSWOLAN_MOST_POSITIONS).rows, NITSWOLAN_MOST_POSITIONS);
   check(tally, "most reference rows", nitswolan_fill_reference(move, table, NITSWOLAN_MOST_REFERENCE).rows, NITSWOLAN_MOST_REFERENCE);
@@ -21,20 +21,26 @@ static void check_places(checks *tally) {
         NITSWOLAN_MOST_REFERENCE);
 }
 
-/* Moves of 2^20 counts with the widest bounds: they end on 2^60 units, at sample 1,028, or 1,026 in third order. */
-static void check_farthest(checks *tally, int direction) {
+/* Moves of 2^20 counts with the widest bounds, from 0 to 2^60 units or from there to 0: they end at sample 1,028, or 1,026 in third
+ * order. */
+static void check_farthest(checks *tally, int64_t start, int64_t end) {
   static int64_t table[NITSWOLAN_MOST_REFERENCE];
   const uint64_t bound = UINT64_C(1) << 50;
-  const nitswolan_move move = {direction * INT64_C(1048576), bound, bound, bound, bound};
-  const uint64_t last = (uint64_t)(direction * (INT64_C(1) << 61));
+  const nitswolan_move move = {end - start, bound, bound, bound, bound, start};
+  const uint64_t first = (uint64_t)(2 * start) * count;
+  const uint64_t last = (uint64_t)(2 * end) * count;
   check(tally, "farthest reference rows", nitswolan_fill_reference(move, table, NITSWOLAN_MOST_REFERENCE).rows, 1030);
+  check(tally, "farthest reference row 0", (uint64_t)table[0], first);
   check(tally, "farthest reference row", (uint64_t)table[1029], last);
   check(tally, "farthest third-order reference rows", nitswolan_fill_reference_third(move, table, NITSWOLAN_MOST_REFERENCE).rows, 1028);
+  check(tally, "farthest third-order reference row 0", (uint64_t)table[0], first);
   check(tally, "farthest third-order reference row", (uint64_t)table[1027], last);
 }
 
 void check_longest(checks *tally) {
   check_places(tally);
-  check_farthest(tally, 1);
-  check_farthest(tally, -1);
+  for (int64_t farthest = -1048576; farthest <= 1048576; farthest += 2097152) {
+    check_farthest(tally, 0, farthest);
+    check_farthest(tally, farthest, 0);
+  }
 }

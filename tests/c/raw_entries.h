@@ -65,7 +65,8 @@ static const order third = {
 /* 2^40, the units in a count. */
 #define G (UINT64_C(1) << 40)
 
-/* The first move to check by: 8 counts in 8 samples, with snap G; in third order in 7 samples, with jerk G. */
+/* The first move to check by: 8 counts in 8 samples, with snap G; in third order in 7 samples, with jerk G. Where a start is not listed,
+ * here and elsewhere, it is 0. */
 static inline raw_move first_move(void) {
   raw_move move = {{8, 2 * G, G, G, G}};
   return move;

@@ -15,14 +15,21 @@ typedef struct {
   uint64_t shortfall;
 } wanted_plan;
 
-/* The count and the remainder are the position's. */
+/* The count and the remainder are the position's, rounded away from the start. */
 typedef struct {
   int64_t snap;
   int64_t jerk;
   int64_t acceleration;
   int64_t velocity;
   int64_t position;
+  int64_t start;
 } wanted_sample;
+
+/* At sample 0 of a move that starts at this count. */
+static inline wanted_sample wanted_from(int64_t start) {
+  wanted_sample at = {0, 0, 0, 0, (int64_t)G * start, start};
+  return at;
+}
 
 /* A move whose plan has eight different numbers: the sixth to check by. It takes 18 samples. */
 static inline raw_move sixth_move(void) {
@@ -49,7 +56,8 @@ static inline void check_plan_at(checks *tally, const areas *both, size_t start,
 
 static inline void check_sample_at(checks *tally, const areas *both, size_t start, wanted_sample at) {
   const int64_t half = (int64_t)G / 2;
-  const int64_t count = (at.position + (at.position < 0 ? -half : half)) / (int64_t)G;
+  const int64_t distance = at.position - (int64_t)G * at.start;
+  const int64_t count = at.start + (distance + (distance < 0 ? -half : half)) / (int64_t)G;
   check(tally, "sample.snap", word(both, start + SAMPLE_SNAP), (uint64_t)at.snap);
   check(tally, "sample.jerk", word(both, start + SAMPLE_JERK), (uint64_t)at.jerk);
   check(tally, "sample.acceleration", word(both, start + SAMPLE_ACCELERATION), (uint64_t)at.acceleration);

@@ -26,7 +26,7 @@ module _ (count : ℕ) (moves : List Move) where
   rule-plans-axes = record { outcome-is = refl; plans-are = refl }
 
   abbrev pub ruleSamples : ℕ → List Sample
-  ruleSamples k = axesPlaces count moves restSample (λ m. axisRow (commonSamples (counted count moves)) m k)
+  ruleSamples k = axesPlaces count moves (restSample (pos 0)) (λ m. axisRow (commonSamples (counted count moves)) m k)
       (axesSampleResult count moves k)
 
   pub rule-samples-axes : (k : ℕ) → SamplesAxes count moves k (axesSampleResult count moves k) (ruleSamples k)
@@ -35,7 +35,7 @@ module _ (count : ℕ) (moves : List Move) where
 -- a closed instance: the first of document 01's moves, the mirror of the second, to which it is raised, an axis at rest, and five places
 -- that are not counted
 abbrev resting : Move
-resting = record { displacement = pos 0; velocity = 1; acceleration = 1; jerk = 1; snap = 1 }
+resting = record { displacement = pos 0; velocity = 1; acceleration = 1; jerk = 1; snap = 1; start = pos 0 }
 
 abbrev pub three : List Move
 three = firstStarred ∷ mirrored secondStarred ∷ resting ∷ noMove ∷ noMove ∷ noMove ∷ noMove ∷ noMove ∷ []
@@ -47,7 +47,10 @@ each-accepted (suc (suc zero)) l =
     let one : BoundInRange 1 = record { at-least = omega arith; at-most = omega arith } in
     record {
       moving = λ h. absurd (omega arith);
-      resting = λ h. record { velocity = one; acceleration = one; jerk = one; snap = one };
+      resting = λ h. (
+        record { velocity = one; acceleration = one; jerk = one; snap = one },
+        record { start = omega arith; end = omega arith },
+      );
     }
 each-accepted (suc (suc (suc i))) l = absurd (omega arith)
 

@@ -1,14 +1,13 @@
 -- The samples of a planned set, one axis after the other: what a pass needs of the plans, and what it leaves.
-use mathlib.Core.Bool.{true, true≢false}
-use mathlib.Core.Path.{_≡_, refl, sym, ap, subst, _∙_}
-use mathlib.Core.List.{List, _∷_, _++_, map}
-use Prim.Native.Nat.{ℕ, suc, _+_, _-_, _≤_, _<_}
+use mathlib.Core.Path.{_≡_, sym, ap, subst, _∙_}
+use mathlib.Core.List.{List, map}
+use Prim.Native.Nat.{ℕ, _+_, _≤_, _<_}
 use native.Mathlib.Omega.{arith}
 use native.Mathlib.Decide.{decLe}
-use lib.ListN.{length, take, set, getD, replicate, length-set, length-map}
-use lib.Seq.{take-all, length-take-le, set-at}
+use lib.ListN.{length, take, set, getD, length-set}
+use lib.Seq.{take-all}
 use Rattle.planner.specs.Result.{Result, refused, given, padded}
-use Rattle.planner.specs.Axes.{mostAxes, restPlan, axisPlan, atRest, commonSamples, axesPlaces, PlansAxes}
+use Rattle.planner.specs.Axes.{mostAxes, restPlan, axisPlan, commonSamples, axesPlaces, PlansAxes}
 use Rattle.planner.specs.AxesClaims.{axisAt}
 use Rattle.planner.specs.Claims.{IsPlanned}
 use Rattle.planner.specs.declared.Move.{Move}
@@ -17,16 +16,16 @@ use Rattle.planner.proofs.AxesAnswers.{count-most, all-accepted}
 use Rattle.planner.proofs.AxesAcceptance.{planned-common, axis-plan-at}
 use Rattle.planner.proofs.CountedLaws.{counted-at, counted-length, within}
 use Rattle.planner.proofs.PaddedLaws.{padded-next}
-use Rattle.motion.specs.Axes.{restSample, axesSampleResult, SamplesPlaced, SamplesAxes}
+use Rattle.motion.specs.Axes.{axesSampleResult, SamplesPlaced, SamplesAxes}
 use Rattle.motion.specs.Inner.PlannedAxes.{AxisInRange, IsAxisSample}
 use Rattle.motion.specs.declared.Sample.{Sample}
 use Rattle.motion.proofs.AxisSampling.{is-row, axis-in-range}
-use Rattle.motion.proofs.AxesSampling.{row, placed-rows, samples-refused, result-past}
+use Rattle.motion.proofs.AxesSampling.{zeros, row, placed-rows, samples-refused, result-past}
 
 -- the places of so many axes at sample k
 module _ (count : ℕ) (moves : List Move) (k : ℕ) where
   abbrev rows : List Move → List Sample
-  rows axes = padded mostAxes restSample (map (row count moves k) axes)
+  rows axes = padded mostAxes zeros (map (row count moves k) axes)
 
   -- the places before i hold the rule's rows
   pub record SampledSoFar (end : ℕ) (samples : List Sample) (i : ℕ) : Type 0 where
@@ -58,20 +57,6 @@ Ends r count end = (IsPlanned r → end ≡ count) × ((IsPlanned r → ⊥) →
 pub given-before : (r : Result (ℕ × ℕ) (Unit {0})) {count end i : ℕ} → Ends r count end → i < end → IsPlanned r
 given-before (refused x) e h = absurd (omega (arith, e .1 (λ x. x)))
 given-before (given x) e h = tt
-
-one-left : (i n : ℕ) → i < mostAxes → n ≡ i → mostAxes - n ≡ suc (mostAxes - suc i)
-one-left i n h q = omega arith
-
--- a place that holds zeros is the same with zeros
-rest-left :
-    (front : List Sample) (i : ℕ) → length front ≡ i → i < mostAxes
-    → set (padded mostAxes restSample front) i restSample ≡ padded mostAxes restSample front
-rest-left front i len h =
-    let rest : replicate (mostAxes - length front) restSample ≡ restSample ∷ replicate (mostAxes - suc i) restSample =
-    ap (λ (n : ℕ). replicate n restSample) (one-left i (length front) h len) in
-    ap (λ (l : List Sample). set (front ++ l) i restSample) rest
-    ∙ set-at front restSample (replicate (mostAxes - suc i) restSample) restSample i len
-    ∙ sym (ap (λ (l : List Sample). front ++ l) rest)
 
 -- the set was planned, with the common duration n
 module _ {count n : ℕ} {moves : List Move} {plans : List Plan}
@@ -108,30 +93,17 @@ module _ {count n : ℕ} {moves : List Move} {plans : List Plan}
         record {
           samples-are =
               ap (λ (xs : List Sample). set xs i x) (f .samples-are)
-              ∙ padded-next (row count moves k) mostAxes restSample axes _ i counted (omega (arith, h, most)) own;
+              ∙ padded-next (row count moves k) mostAxes zeros axes _ i counted (omega (arith, h, most)) own;
           places = length-set s i x ∙ f .places;
           before-end = omega (arith, l);
         }
-
-    -- the place of an axis at rest is left
-    pub rest-next :
-        {k end : ℕ} {s : List Sample} → SampledSoFar count moves k end s i → i < end → atRest (axisAt moves i) ≡ true
-        → SampledSoFar count moves k end s (i + 1)
-    rest-next {k} {end} {s} f l rests =
-        let front = map (row count moves k) (take i axes) in
-        let len : length front ≡ i = length-map (take i axes) (row count moves k) ∙ length-take-le i axes (omega (arith, counted)) in
-        let left : set s i restSample ≡ s =
-        ap (λ (xs : List Sample). set xs i restSample) (f .samples-are) ∙ rest-left front i len (omega (arith, h, most))
-        ∙ sym (f .samples-are) in
-        subst (λ (xs : List Sample). SampledSoFar count moves k end xs (i + 1)) left
-        (sampled-next f l (record { moving = λ m. absurd (true≢false (sym rests ∙ m)); resting = λ r. refl }))
 
 -- at the end the places are the rule's
 module _ {count k end i : ℕ} {moves : List Move} (sent : length moves ≡ mostAxes) {plans : List Plan} {s : List Sample}
     (f : SampledSoFar count moves k end s i) (all : end ≤ i) where
   all-placed :
       (r : Result (ℕ × ℕ) (Unit {0})) → (IsPlanned r → Reached count moves k plans) → Ends r count end
-      → s ≡ axesPlaces count moves restSample (row count moves k) r
+      → s ≡ axesPlaces count moves zeros (row count moves k) r
   all-placed (refused x) p e =
       let none : i ≡ 0 = omega (arith, e .1 (λ x. x), f .before-end) in
       f .samples-are ∙ ap (λ (i : ℕ). rows count moves k (take i (take count moves))) none

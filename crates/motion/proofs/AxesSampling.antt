@@ -4,6 +4,7 @@ use mathlib.Core.Path.{_≡_, refl, sym, ap, subst, _∙_}
 use mathlib.Core.List.{List, [], _∷_}
 use Prim.Native.Nat.{ℕ, _≤_, _<_}
 use lib.Dec.{ltb}
+use lib.IntN.{pos}
 use lib.ListN.{length, take, getD, replicate}
 use Rattle.planner.specs.Result.{Result, refused, given, check, firstRefusal}
 use Rattle.planner.specs.Axes.{mostAxes, commonSamples, axesChecks, axesResult, axesPlaces}
@@ -18,6 +19,10 @@ use Rattle.motion.proofs.RoundingLaws.{rounding-of}
 use Rattle.motion.proofs.RoundedValues.{one-rounded-sample}
 use Rattle.motion.proofs.AxisSampling.{axisRow}
 
+-- the places without an axis
+abbrev pub zeros : Sample
+zeros = restSample (pos 0)
+
 module _ (count : ℕ) (moves : List Move) where
   abbrev axes : List Move
   axes = take count moves
@@ -28,28 +33,28 @@ module _ (count : ℕ) (moves : List Move) where
     row m = axisRow (commonSamples axes) m k
 
     module _ {o : Result (ℕ × ℕ) (Unit {0})} {samples : List Sample} where
-      pub placed-rows : samples ≡ axesPlaces count moves restSample row o → SamplesPlaced count moves k o samples
+      pub placed-rows : samples ≡ axesPlaces count moves zeros row o → SamplesPlaced count moves k o samples
       placed-rows q = record { rounding = rounding-of; samples-are = q }
 
-      pub only-rows : SamplesPlaced count moves k o samples → samples ≡ axesPlaces count moves restSample row o
+      pub only-rows : SamplesPlaced count moves k o samples → samples ≡ axesPlaces count moves zeros row o
       only-rows x =
           let v : Move → Values = λ m. axisValues (commonSamples axes) m k in
           x .samples-are
-          ∙ ap (λ (row : Move → Sample). axesPlaces count moves restSample row o)
-          (λ i m. one-rounded-sample (v m) (x .rounding (v m .position)) i)
+          ∙ ap (λ (row : Move → Sample). axesPlaces count moves zeros row o)
+          (λ i m. one-rounded-sample (m .start) (v m) (x .rounding (v m .position)) i)
 
     -- all places are zeros at a refusal
     without :
-        {x : ℕ × ℕ} → refused x ≡ axesSampleResult count moves k → SamplesAxes count moves k (refused x) (replicate mostAxes restSample)
+        {x : ℕ × ℕ} → refused x ≡ axesSampleResult count moves k → SamplesAxes count moves k (refused x) (replicate mostAxes zeros)
     without {x} q =
         record {
           outcome-is = q;
           placed =
-              subst (λ (o : Result (ℕ × ℕ) (Unit {0})). SamplesPlaced count moves k o (replicate mostAxes restSample)) q (placed-rows refl);
+              subst (λ (o : Result (ℕ × ℕ) (Unit {0})). SamplesPlaced count moves k o (replicate mostAxes zeros)) q (placed-rows refl);
         }
 
     pub samples-refused :
-        {x : ℕ × ℕ} → refused x ≡ axesResult count moves → SamplesAxes count moves k (refused x) (replicate mostAxes restSample)
+        {x : ℕ × ℕ} → refused x ≡ axesResult count moves → SamplesAxes count moves k (refused x) (replicate mostAxes zeros)
     unfolding axesResult axesSampleResult
     samples-refused q =
         without (sym (checks-joined (axesChecks count moves) _ _ ∙ same-refusal (axesChecks count moves) _ _ _ (sym q)))
@@ -66,7 +71,7 @@ module _ (count : ℕ) (moves : List Move) where
       pub result-past : n < k → refused (9, 0) ≡ axesSampleResult count moves k
       result-past l = own-check h (stop (lt-ltb _ k (subst (λ (n : ℕ). n < k) (common-is count moves h) l)) .is)
 
-      pub samples-past : n < k → SamplesAxes count moves k (refused (9, 0)) (replicate mostAxes restSample)
+      pub samples-past : n < k → SamplesAxes count moves k (refused (9, 0)) (replicate mostAxes zeros)
       samples-past l = without (result-past l)
 
       -- within the duration a sample is given
@@ -82,8 +87,8 @@ module _ (count : ℕ) (moves : List Move) where
       -- and its place holds the rule's row
       pub sampled-row :
           {o : Result (ℕ × ℕ) (Unit {0})} {samples : List Sample} → SamplesAxes count moves k o samples → k ≤ n
-          → (i : ℕ) (d : Move) → i < length axes → getD samples i restSample ≡ axisRow (commonSamples axes) (getD axes i d) k
+          → (i : ℕ) (d : Move) → i < length axes → getD samples i zeros ≡ axisRow (commonSamples axes) (getD axes i d) k
       sampled-row {o} {samples} p l i d within =
-          ap (λ (l : List Sample). getD l i restSample)
-          (only-rows (p .placed) ∙ ap (axesPlaces count moves restSample row) (sym (result-given l)))
-          ∙ padded-at row mostAxes restSample axes restSample d i within
+          ap (λ (l : List Sample). getD l i zeros)
+          (only-rows (p .placed) ∙ ap (axesPlaces count moves zeros row) (sym (result-given l)))
+          ∙ padded-at row mostAxes zeros axes zeros d i within

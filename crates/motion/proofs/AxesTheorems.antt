@@ -5,6 +5,7 @@ use mathlib.Core.List.{List, [], _∷_}
 use Prim.Native.Nat.{ℕ, _<_}
 use borrow.Author.Tests.{ltb-true, lt-ltb}
 use lib.Dec.{ltb}
+use lib.IntN.{pos}
 use lib.ListN.{take}
 use Rattle.planner.specs.Result.{Result, given, check, firstRefusal}
 use Rattle.planner.specs.Axes.{commonSamples}
@@ -68,6 +69,6 @@ samples-counted-alone count moves others q k o samples p =
       placed =
           placed-rows count others k
           (only-rows count moves k (p .placed)
-          ∙ ap (placesFor count moves restSample row) same
-          ∙ same-places-for count moves others q restSample row (axesSampleResult count others k));
+          ∙ ap (placesFor count moves (restSample (pos 0)) row) same
+          ∙ same-places-for count moves others q (restSample (pos 0)) row (axesSampleResult count others k));
     }

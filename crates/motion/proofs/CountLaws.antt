@@ -1,5 +1,5 @@
 -- The count of a position and its remainder: how a natural number gives them, in both directions, and that there are no others.
-use mathlib.Core.Path.{_≡_, sym, ap, _∙_}
+use mathlib.Core.Path.{_≡_, refl, sym, ap, _∙_}
 use Prim.Native.Nat.{ℕ, suc, _+_, _-_, _*_, _≤_, _<_}
 use native.Mathlib.Nat.{le-antisymm, le-of-suc-le-suc, lt-of-not-le}
 use native.Mathlib.Omega.{arith}
@@ -7,7 +7,8 @@ use lib.IntN.{ℤ, pos, negsuc, negℤ, natAbs, _+ℤ_, _-ℤ_, negℤ-negℤ, n
 use Rattle.planner.specs.Quantities.{unitsPerCount}
 use Rattle.motion.specs.Sampling.{unitsOf, RoundsTo, Rounding}
 use Rattle.planner.proofs.Sign.{size-negated}
-use Rattle.motion.proofs.IntegerLaws.{multiple-negated, difference, size-difference}
+use Rattle.planner.proofs.IntegerSizes.{size-difference}
+use Rattle.motion.proofs.IntegerLaws.{multiple-negated, difference}
 
 -- both directions are alike
 pub rounds-negated : (x c r : ℤ) → RoundsTo x c r → RoundsTo (negℤ x) (negℤ c) (negℤ r)
@@ -22,6 +23,10 @@ rounds-negated x c r h =
 -- a position past its count, and one short of it
 pub past-count : (n q s : ℕ) → n ≡ unitsPerCount * q + s → 2 * s < unitsPerCount → RoundsTo (pos n) (pos q) (pos s)
 past-count n q s h l = record { position-is = ap pos h; nearest = omega arith; half-away = λ t. omega arith }
+
+-- no distance is no count
+unfoldable pub no-distance : Rounding (pos 0)
+no-distance = record { count = pos 0; remainder = pos 0; rounded = past-count 0 0 0 refl (omega arith) }
 
 pub short-of-count : (n q s : ℕ) → n + s ≡ unitsPerCount * q → 2 * s ≤ unitsPerCount → RoundsTo (pos n) (pos q) (negℤ (pos s))
 short-of-count n q s h l =

@@ -34,7 +34,7 @@ use Rattle.motion.proofs.KeptLaws.{kept-snap, kept, kept-any}
 module _ (x : Motion) (p : Each Passes (x .planChecks)) where
   -- the rule's own values, rounded
   abbrev pub ruleAt : ℕ → Sample
-  ruleAt k = withRounding (x .values k)
+  ruleAt k = withRounding (x .start) (x .values k)
 
   -- what the one-sample entry gives
   pub sampled : {k : ℕ} {o : Result ℕ Sample} → k ≤ x .samples → Samples x k o → o ≡ given (ruleAt k)
@@ -62,7 +62,8 @@ module _ (x : Motion) (p : Each Passes (x .planChecks)) where
 
 -- the rule's own values keep the lines
 pub fourth-kept :
-    (m : Move) → Accepted m → Kept m (samplesOf m) (P (intervalsOf m)) (exactPositionTimesP m) (λ k. withRounding (valuesOf m k))
+    (m : Move) → Accepted m
+    → Kept m (samplesOf m) (P (intervalsOf m)) (exactPositionTimesP m) (λ k. withRounding (m .start) (valuesOf m k))
 unfolding samplesOf valuesOf exactPositionTimesP
 fourth-kept m h = kept (keeps (rule-facts m h))
 
@@ -71,12 +72,12 @@ unfolding samplesOf valuesOf shared
 demand-3 m h sample promised old new rows room filled =
     record {
       shared = shared (fourthOrder m) (accepted-passes m h) (fourth-kept m h) sample promised old new rows room filled;
-      kept-snap = kept-snap (m .displacement) _ _ (rule-facts m h .bounds .snap);
+      kept-snap = kept-snap (m .start) (m .displacement) _ _ (rule-facts m h .bounds .snap);
     }
 
 pub third-kept :
     (m : Move) → ThirdAccepted m
-    → Kept m (thirdSamplesOf m) (P₃ (thirdIntervalsOf m)) (thirdExactPositionTimesP m) (λ k. withRounding (thirdValuesOf m k))
+    → Kept m (thirdSamplesOf m) (P₃ (thirdIntervalsOf m)) (thirdExactPositionTimesP m) (λ k. withRounding (m .start) (thirdValuesOf m k))
 unfolding thirdSamplesOf thirdValuesOf thirdExactPositionTimesP span product
 third-kept m h =
     kept-any (third-keeps (third-rule-facts m h)) (third-follows (m .displacement) (thirdIntervalsOf m) _)

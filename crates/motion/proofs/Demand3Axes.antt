@@ -5,7 +5,7 @@ use mathlib.Core.Path.{_≡_, sym, ap, subst, _∙_}
 use mathlib.Core.List.{List}
 use Prim.Native.Nat.{ℕ, _≤_, _<_}
 use borrow.Author.Tests.{eq-eqb}
-use lib.IntN.{ℤ}
+use lib.IntN.{ℤ, _-ℤ_, +ℤ-invr}
 use lib.ListN.{length, take, getD}
 use Rattle.planner.specs.Intervals.{Intervals, N, P, D}
 use Rattle.planner.specs.Result.{Result, given, Each}
@@ -18,6 +18,7 @@ use Rattle.planner.proofs.RaisedLaws.{raised-axis, raised-axis-samples}
 use Rattle.planner.proofs.CountedLaws.{counted-at, within}
 use Rattle.planner.proofs.AxesAcceptance.{accepted-each, accepted-axes-result}
 use Rattle.planner.proofs.CommonDuration.{common-duration}
+use Rattle.motion.specs.Sampling.{unitsOf}
 use Rattle.motion.specs.Axes.{restSample, axisExact}
 use Rattle.motion.specs.AxesClaims.{KeptAxis, Demand3AxesClaim}
 use Rattle.motion.specs.Demand3.{KeptSnap, Kept}
@@ -41,16 +42,17 @@ module _ (n : ℕ) (m : Move) where
   resting-kept : atRest m ≡ true → KeptAxis n m row
   resting-kept h =
       let rests = rest-resting m h in
-      let rows : row ≡ (λ k. restSample) = λ i k. resting-row n m k h i in
+      let rows : row ≡ (λ k. restSample (m .start)) = λ i k. resting-row n m k h i in
       let exact = exact-by n m h in
       record {
         kept-snap = subst (KeptSnap m n) (sym rows) (rest-kept-snap m rests n);
         kept =
             subst (Kept m n (P t) (axisExact n m)) (sym rows)
-            (subst (λ (E : ℕ → ℤ). Kept m n (P t) E (λ k. restSample)) (sym exact) (rest-kept m rests n (P t)));
+            (subst (λ (E : ℕ → ℤ). Kept m n (P t) E (λ k. restSample (m .start))) (sym exact) (rest-kept m rests n (P t)));
         at-rest = λ _ k. (
           resting-row n m k h,
-          ap (λ (E : ℕ → ℤ). E k) exact ∙ ap (λ (x : Sample). x .position) (sym (resting-row n m k h)),
+          ap (λ (E : ℕ → ℤ). E k) exact
+              ∙ sym (ap (λ (x : Sample). x .position -ℤ unitsOf (m .start)) (resting-row n m k h) ∙ +ℤ-invr (unitsOf (m .start))),
         );
       }
 
@@ -59,20 +61,20 @@ module _ (n : ℕ) (m : Move) where
       (h : atRest m ≡ false) {short : ℕ} (f : KeepsFourth m t (D t (distanceOf m)) short) (slow : D t (distanceOf m) ≤ m .snap) (last : N t ≡ n)
     where
       abbrev values : ℕ → Sample
-      values = sampleAt (m .displacement) t (D t (distanceOf m))
+      values = sampleAt (m .start) (m .displacement) t (D t (distanceOf m))
 
       abbrev exact : ℕ → ℤ
       exact = directedPosition (m .displacement) t (distanceOf m)
 
       rows : row ≡ values
-      rows = λ i k. withRounding (values-by n m h k i)
+      rows = λ i k. withRounding (m .start) (values-by n m h k i)
 
       moving-kept : KeptAxis n m row
       moving-kept =
           record {
             kept-snap =
                 subst (KeptSnap m n) (sym rows)
-                (subst (λ (n : ℕ). KeptSnap m n values) last (kept-snap (m .displacement) t (D t (distanceOf m)) slow));
+                (subst (λ (n : ℕ). KeptSnap m n values) last (kept-snap (m .start) (m .displacement) t (D t (distanceOf m)) slow));
             kept =
                 subst (Kept m n (P t) (axisExact n m)) (sym rows)
                 (subst (λ (E : ℕ → ℤ). Kept m n (P t) E values) (sym (exact-by n m h))

@@ -1,5 +1,5 @@
 -- A jerk over widths in the direction of X, in either order: up to the velocity no sum of it is larger than what bounds that, and none is
--- larger than the last position; so no step of three sums leaves its range.
+-- larger than the last position; so no step of three sums leaves its range, from any origin within 2^61.
 use mathlib.Core.List.{List, _∷_}
 use mathlib.Core.Path.{_≡_, refl, ap, _∙_}
 use Prim.Native.Nat.{ℕ, suc, _*_, _≤_, _^_}
@@ -15,8 +15,9 @@ use Rattle.profile.specs.Inner.Widths.{product, Spread}
 use Rattle.profile.specs.Inner.Facts.{jerkOver}
 use Rattle.profile.proofs.SumLaws.{sums-negated}
 use Rattle.profile.proofs.SumSizes as size
-use Rattle.motion.specs.Inner.Steps.{StepFits, thirdStateAt}
+use Rattle.motion.specs.Inner.Steps.{StepFits, sumFrom, thirdStateFrom}
 use Rattle.motion.proofs.IntegerLaws.{small-fits}
+use Rattle.motion.proofs.OriginLaws.{from-fits}
 
 -- the direction, on sums
 pub along-sums : (X : ℤ) (n : ℕ) (f : ℕ → ℤ) (k : ℕ) → sums n (λ i. along X (f i)) k ≡ along X (sums n f k)
@@ -58,13 +59,17 @@ module _ {X : ℤ} {a : ℕ} {inner : List ℕ} {c e D : ℕ} {f : ℕ → ℤ} 
     reach-speed = size.reach-speed a D (h .one) inner c e (2 ^ 60) (h .spread) reach
 
     -- the jerk's own sum is left to the order
-    pub sums-fit : (k : ℕ) → k ≤ 2 ^ 60 → (x : ℤ) → SFits w64 (f k +ℤ x) → StepFits (thirdStateAt f k) x
-    unfolding sum sums
-    sums-fit k l x own =
+    pub sums-fit :
+        (origin : ℤ) → natAbs origin ≤ 2 ^ 61
+        → (k : ℕ) → k ≤ 2 ^ 60
+        → (x : ℤ) → SFits w64 (f k +ℤ x)
+        → StepFits (thirdStateFrom origin f k) x
+    unfolding sum sums sumFrom
+    sums-fit origin near k l x own =
         record {
           sample = record { fits = omega arith };
           jerk = own;
           acceleration = small-fits _ (acceleration-below (2 ^ 60) reach-speed (suc k));
           velocity = small-fits _ (velocity-below (2 ^ 60) reach-speed (suc k));
-          position = small-fits _ (position-below (suc k));
+          position = from-fits origin (sums 2 f) near (suc k) (omega (arith, position-below (suc k)));
         }

@@ -5,7 +5,7 @@ use mathlib.Core.List.{List}
 use Prim.Native.Nat.{ℕ, _<_}
 use native.Mathlib.Nat.{le-refl}
 use native.Mathlib.Omega.{arith}
-use lib.IntN.{negℤ}
+use lib.IntN.{pos, negℤ}
 use lib.ListN.{length, take, getD}
 use Rattle.planner.specs.Intervals.{N, D}
 use Rattle.planner.specs.Result.{Each, given}
@@ -27,8 +27,7 @@ use Rattle.planner.proofs.ResultLaws.{same-given}
 use Rattle.profile.specs.Inner.Widths.{span}
 use Rattle.motion.specs.Sampling.{Values, Motion, Samples}
 use Rattle.motion.specs.Axes.{restSample}
-use Rattle.motion.specs.Claims.{EndRemainder, EndRemainderClaim, ThirdEndRemainderClaim}
-use Rattle.motion.specs.AxesClaims.{AxesEndRemainderClaim}
+use Rattle.motion.specs.EndClaims.{fourth-ends, third-ends, axis-ends, EndRemainder, EndRemainderClaim}
 use Rattle.motion.specs.declared.Sample.{Sample}
 use Rattle.motion.proofs.RoundedValues.{withRounding}
 use Rattle.motion.proofs.EntryLaws.{PlannedAs, fourth-planned, third-planned}
@@ -44,25 +43,11 @@ use Rattle.motion.proofs.AxesSampleRuns.{most, plan-is}
 last-sample :
     {x : Motion} {n : ℕ} {v : ℕ → Values} → PlannedAs x n v
     → {last : Sample} → Samples x (x .samples) (given last)
-    → last ≡ withRounding (v n)
+    → last ≡ withRounding (x .start) (v n)
 last-sample {x} {v = v} f s =
     same-given (sampled x (f .pass) (le-refl (x .samples)) s)
-    ∙ ap withRounding (sym (f .values-are (x .samples)))
-    ∙ ap (λ (k : ℕ). withRounding (v k)) (sym (f .samples-are))
-
-pub end-remainder : EndRemainderClaim
-unfolding span
-end-remainder m plan h last s =
-    let f = planned-facts h in
-    subst (EndRemainder (m .displacement) (plan .shortfall)) (sym (last-sample (fourth-planned f) s))
-    (remainder-end (keeps f) (fourth-follows (m .displacement) (intervalsIn plan) (plan .snap)))
-
-pub third-end-remainder : ThirdEndRemainderClaim
-unfolding span
-third-end-remainder m plan h last s =
-    let f = third-facts h in
-    subst (EndRemainder (m .displacement) (plan .shortfall)) (sym (last-sample (third-planned f) s))
-    (remainder-end (third-keeps f) (third-follows (m .displacement) (thirdIntervalsIn plan) (plan .jerk)))
+    ∙ ap (withRounding (x .start)) (sym (f .values-are (x .samples)))
+    ∙ ap (λ (k : ℕ). withRounding (x .start) (v k)) (sym (f .samples-are))
 
 -- one axis of accepted ones, at the common duration
 module _ (axes : List Move) (h : Each AcceptedAxis axes) (i : ℕ) (d : Move) (l : i < length axes) where
@@ -77,7 +62,8 @@ module _ (axes : List Move) (h : Each AcceptedAxis axes) (i : ℕ) (d : Move) (l
 
   resting-end : atRest axis ≡ true → AtEnd (axisPlan axis n .shortfall) (axisRow n axis n)
   resting-end rests =
-      let zeros : AtEnd 0 restSample = record { remainder-is = sym (ap negℤ (along-zero (axis .displacement))); below-half = omega arith } in
+      let zeros : AtEnd 0 (restSample (axis .start)) =
+      record { remainder-is = sym (ap negℤ (along-zero (axis .displacement))); below-half = omega arith } in
       subst (λ (x : Plan). AtEnd (x .shortfall) (axisRow n axis n)) (sym (resting-plan axis n rests))
       (subst (AtEnd 0) (sym (resting-row n axis n rests)) zeros)
 
@@ -85,24 +71,34 @@ module _ (axes : List Move) (h : Each AcceptedAxis axes) (i : ℕ) (d : Move) (l
   unfolding span
   moving-end moves =
       let t = raised n (intervalsOf axis) in
-      let values = sampleAt (axis .displacement) t (D t (distanceOf axis)) in
+      let values = sampleAt (axis .start) (axis .displacement) t (D t (distanceOf axis)) in
       let row : axisRow n axis n ≡ values (N t) =
-      ap withRounding (values-by n axis moves n) ∙ ap values (sym (raised-axis-samples axes h i d l moves)) in
+      ap (withRounding (axis .start)) (values-by n axis moves n) ∙ ap values (sym (raised-axis-samples axes h i d l moves)) in
       subst (λ (x : Plan). AtEnd (x .shortfall) (axisRow n axis n)) (sym (moving-plan axis n moves))
       (subst (AtEnd _) (sym row)
-      (remainder-end (keeps (raised-axis axes h i d l moves)) (fourth-follows (axis .displacement) t (D t (distanceOf axis)))))
+      (remainder-end (keeps (raised-axis axes h i d l moves)) (fourth-follows (axis .displacement) t (D t (distanceOf axis)))
+      (axis .start)))
 
   axis-end : AtEnd (axisPlan axis n .shortfall) (axisRow n axis n)
   axis-end = by-rest axis resting-end moving-end
 
-pub axes-end-remainder : (count : ℕ) (moves : List Move) → AxesEndRemainderClaim count moves
-axes-end-remainder count moves sent N plans p samples s i c =
+pub end-remainder : EndRemainderClaim
+unfolding span
+end-remainder _ _ _ (fourth-ends m plan h last s) =
+    let f = planned-facts h in
+    subst (EndRemainder (m .displacement) (plan .shortfall)) (sym (last-sample (fourth-planned f) s))
+    (remainder-end (keeps f) (fourth-follows (m .displacement) (intervalsIn plan) (plan .snap)) (m .start))
+end-remainder _ _ _ (third-ends m plan h last s) =
+    let f = third-facts h in
+    subst (EndRemainder (m .displacement) (plan .shortfall)) (sym (last-sample (third-planned f) s))
+    (remainder-end (third-keeps f) (third-follows (m .displacement) (thirdIntervalsIn plan) (plan .jerk)) (m .start))
+end-remainder _ _ _ (axis-ends count moves sent N plans p samples s i c) =
     let axes = take count moves in
     let n = commonSamples axes in
     let l = within count moves sent (most sent p) i c in
     let same = counted-at count moves i c in
     let common = planned-common count moves p in
-    let row : getD samples i restSample ≡ axisRow n (axisAt moves i) n =
+    let row : getD samples i (restSample (pos 0)) ≡ axisRow n (axisAt moves i) n =
     sampled-row count moves N (p .outcome-is) s (le-refl N) i _ l
     ∙ ap (λ (m : Move). axisRow n m N) same ∙ ap (axisRow n (axisAt moves i)) common in
     subst (EndRemainder (axisAt moves i .displacement) (getD plans i restPlan .shortfall)) (sym row)

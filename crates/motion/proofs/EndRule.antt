@@ -4,14 +4,14 @@ use mathlib.Core.Path.{_≡_, ap, _∙_}
 use Prim.Native.Nat.{ℕ, suc, _+_, _*_, _<_, _^_}
 use native.Mathlib.Nat.{le-trans, le-refl}
 use native.Mathlib.Omega.{arith}
-use lib.IntN.{ℤ, pos, negsuc, negℤ}
+use lib.IntN.{ℤ, pos, negsuc, negℤ, _+ℤ_}
 use Rattle.planner.specs.Quantities.{distance, along}
 use Rattle.planner.specs.declared.Move.{Move}
 use Rattle.profile.specs.Inner.Widths.{span, product}
 use Rattle.profile.specs.Inner.Facts.{jerkOver}
 use Rattle.profile.proofs.AnyOrder.{any-order-end}
 use Rattle.motion.specs.Sampling.{Values, RoundsTo, Rounding}
-use Rattle.motion.specs.Claims.{EndRemainder}
+use Rattle.motion.specs.EndClaims.{EndRemainder}
 use Rattle.planner.proofs.Sign.{size-negated}
 use Rattle.planner.proofs.DirectionLaws.{size-along}
 use Rattle.motion.proofs.KeptRules.{Keeps, Follows}
@@ -50,14 +50,16 @@ module _
           rounded = rw position-end (near-end (m .displacement) (D * product a (e ∷ c ∷ inner)) short (f .whole) short-small);
         }
 
-    same-end : (withRounding (v N) .count ≡ m .displacement) × (withRounding (v N) .remainder ≡ negℤ (along (m .displacement) (pos short)))
+    same-end :
+        (rounding-of (v N .position) .count ≡ m .displacement)
+        × (rounding-of (v N .position) .remainder ≡ negℤ (along (m .displacement) (pos short)))
     unfolding rounding-end
     same-end = one-rounding (rounding-of (v N .position)) rounding-end
 
-    pub count-end : withRounding (v N) .count ≡ m .displacement
-    count-end = same-end .0
+    pub count-end : (start : ℤ) → withRounding start (v N) .count ≡ start +ℤ m .displacement
+    count-end start = ap (λ (c : ℤ). start +ℤ c) (same-end .0)
 
-    pub remainder-end : EndRemainder (m .displacement) short (withRounding (v N))
-    remainder-end =
+    pub remainder-end : (start : ℤ) → EndRemainder (m .displacement) short (withRounding start (v N))
+    remainder-end start =
         let size = size-negated (along (m .displacement) (pos short)) ∙ size-along (m .displacement) (pos short) in
         record { remainder-is = same-end .1; below-half = rw (same-end .1, size) short-small }

@@ -2,15 +2,16 @@
 use mathlib.Core.Bool.{Bool, true, false}
 use mathlib.Core.List.{List, [], _∷_, _++_}
 use mathlib.Core.Path.{_≡_, sym, ap, subst, _∙_}
-use Prim.Native.Nat.{ℕ, _+_}
+use Prim.Native.Nat.{ℕ, _+_, _≤_}
 use native.Mathlib.Nat.{le-trans}
 use native.Mathlib.Omega.{arith}
 use lib.Ieee.{Float}
-use lib.IntN.{ℤ}
+use lib.IntN.{ℤ, natAbs}
 use Rattle.planner.specs.Intervals.{Intervals, N}
 use Rattle.planner.specs.Result.{Each, Result, refused, given, Check, check, firstRefusal}
-use Rattle.planner.specs.Outcome.{distanceOf, intervalsOf, intervalsIn, samplesOf, planOf, checks, outcomeOf, Plans, outcome}
-use Rattle.planner.specs.Claims.{IsPlanned}
+use Rattle.planner.specs.Outcome.{mostCounts, distanceOf, intervalsOf, intervalsIn, samplesOf, planOf, checks, outcomeOf, Plans, outcome}
+use Rattle.planner.specs.Claims.{EndsInSpan, IsPlanned}
+use Rattle.planner.specs.AxesClaims.{AcceptedAxis}
 use Rattle.planner.specs.Third.{N₃, thirdIntervalsOf, thirdIntervalsIn, thirdSamplesOf, thirdPlanOf, thirdChecks, thirdOutcomeOf, PlansThird, thirdOutcome}
 use Rattle.planner.specs.Inner.Facts.{PlanFacts}
 use Rattle.planner.specs.Inner.ThirdFacts.{ThirdFacts}
@@ -23,6 +24,7 @@ use Rattle.planner.specs.declared.ThirdPlan.{ThirdPlan}
 use Rattle.planner.specs.declared.ThirdAnswer.{ThirdAnswer}
 use Rattle.planner.specs.declared.ThirdAnswer.the-variants.{Refused as NoThird}
 use Rattle.planner.proofs.Acceptance.{accepted-passes, third-passes}
+use Rattle.planner.proofs.AxisLaws.{by-rest, rest-resting, rest-moving}
 use Rattle.planner.proofs.FiguresChecks.{near-distance}
 use Rattle.planner.proofs.RefusalLaws.{Passes, stop, skip, none-left, all-pass, checks-joined}
 use Rattle.motion.specs.Sampling.{Values, valuesAt, valuesOf, thirdValuesOf, Motion, fourthOrder, thirdOrder}
@@ -69,6 +71,10 @@ pub record PlannedAs (x : Motion) (n : ℕ) (v : ℕ → Values) : Type 0 where
   pub samples-are : n ≡ x .samples
   pub values-are : (k : ℕ) → v k ≡ x .values k
 
+-- an accepted axis starts and ends in the span, at rest too
+pub axis-ends-in-span : {m : Move} → AcceptedAxis m → EndsInSpan m
+axis-ends-in-span {m} h = by-rest m (λ q. h .resting (rest-resting m q) .1) (λ q. h .moving (rest-moving m q) .in-range .ends)
+
 -- the move was planned as x, in any intervals
 module _ {m : Move} {t : Intervals} {x : Plan} (f : PlanFacts m t x) where
   pub within-range : WithinRange (intervalsIn x) (x .snap)
@@ -79,6 +85,9 @@ module _ {m : Move} {t : Intervals} {x : Plan} (f : PlanFacts m t x) where
         reach = le-trans (omega (arith, f .whole)) (near-distance (m .displacement) (f .accepted .in-range .near));
         speed = le-trans (f .bounds .velocity) (f .accepted .in-range .bounds .velocity .at-most);
       }
+
+  pub start-in-span : natAbs (m .start) ≤ mostCounts
+  start-in-span = f .accepted .in-range .ends .start
 
 -- in the rule's own
 module _ {m : Move} {x : Plan} (f : PlanFacts m (intervalsOf m) x) where
@@ -115,6 +124,9 @@ module _ {m : Move} {x : ThirdPlan} (f : ThirdFacts m x) where
         samples = f .samples;
         reach = le-trans (omega (arith, f .whole)) (near-distance (m .displacement) (f .accepted .in-range .near));
       }
+
+  pub third-start-in-span : natAbs (m .start) ≤ mostCounts
+  third-start-in-span = f .accepted .in-range .ends .start
 
   pub third-planned : PlannedAs (thirdOrder m) (N₃ (thirdIntervalsIn x)) (thirdValuesIn (m .displacement) x)
   unfolding thirdSamplesOf thirdValuesOf

@@ -16,7 +16,8 @@ use Rattle.profile.specs.Inner.ClosedForm.{falling, differences}
 use Rattle.profile.proofs.Binomials.{falling-none}
 use Rattle.motion.specs.declared.closed_form.Products.{Products}
 use Rattle.motion.specs.Inner.ClosedForm.{productsOver, differenceOf, DifferenceFits}
-use Rattle.motion.proofs.IntegerLaws.{size-sum, small-fits, differences-fit, difference}
+use Rattle.planner.proofs.IntegerSizes.{size-sum}
+use Rattle.motion.proofs.IntegerLaws.{small-fits, differences-fit, difference}
 
 -- no product of at bound four factors is above 2^48
 falling-bound : (n k : ℕ) → k ≤ mostSamples → falling n k ≤ mostSamples ^ n

@@ -12,9 +12,9 @@ use Rattle.planner.specs.Result.{Each, Result, refused, given, Check, check, fi
 use Rattle.planner.proofs.EachLaws.{each-parts}
 use Rattle.planner.proofs.RefusalLaws.{Passes, passed, all-pass, refused-on}
 use Rattle.planner.proofs.ResultLaws.{same-given}
-use Rattle.motion.specs.Sampling.{Values, Motion}
+use Rattle.motion.specs.Sampling.{Values, fromStart, Motion}
 use Rattle.motion.specs.Tables.{rowsFrom, tableOf, tableChecks, tableResult, Fills, FillsPositions, referenceRow, FillsReference}
-use Rattle.motion.specs.Inner.Planned.{RowsIn, WritesRows}
+use Rattle.motion.specs.Inner.Planned.{positionsFrom, RowsIn, WritesRows}
 use Rattle.motion.proofs.EntryLaws.{PlannedAs, own-checks}
 
 length-rows : {A : Type 0} (row : ℕ → A) (k n : ℕ) → length (rowsFrom row k n) ≡ n
@@ -147,12 +147,14 @@ module _ {A : Type 0} {rows : ℕ} {row : ℕ → A} {old : List A} where
 
 -- a plan's positions
 module _ {x : Motion} {n : ℕ} {v : ℕ → Values} (f : PlannedAs x n v) {old new : List ℤ} {o : Result ℕ ℕ} where
-  pub fills-positions : WritesRows [] (n + 1) (λ k. v k .position) old o new → FillsPositions x old o new
+  pub fills-positions : WritesRows [] (n + 1) (positionsFrom (x .start) v) old o new → FillsPositions x old o new
   unfolding FillsPositions
-  fills-positions = fills (f .pass) (ap (λ (n : ℕ). n + 1) (f .samples-are)) (λ k. ap (λ (v : Values). v .position) (f .values-are k))
+  fills-positions =
+      fills (f .pass) (ap (λ (n : ℕ). n + 1) (f .samples-are))
+      (λ k. ap (λ (v : Values). fromStart (x .start) (v .position)) (f .values-are k))
 
-  pub fills-reference : WritesRows [] (n + 2) (referenceRow n v) old o new → FillsReference x old o new
+  pub fills-reference : WritesRows [] (n + 2) (referenceRow (x .start) n v) old o new → FillsReference x old o new
   unfolding FillsReference
   fills-reference =
       fills (f .pass) (ap (λ (n : ℕ). n + 2) (f .samples-are))
-      (λ k. ap₂ (λ (n : ℕ) (v : ℕ → Values). referenceRow n v k) (f .samples-are) (fun-ext (f .values-are)))
+      (λ k. ap₂ (λ (n : ℕ) (v : ℕ → Values). referenceRow (x .start) n v k) (f .samples-are) (fun-ext (f .values-are)))

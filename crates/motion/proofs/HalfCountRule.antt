@@ -16,7 +16,8 @@ use Rattle.profile.specs.Inner.Facts.{jerkOver}
 use Rattle.profile.proofs.AnyOrder.{any-order}
 use Rattle.profile.proofs.HalfCountLaw.{exact-ramp, behind-half}
 use Rattle.motion.specs.Sampling.{Values}
-use Rattle.motion.proofs.IntegerLaws.{multiple-negated, difference, swapped-difference}
+use Rattle.motion.specs.Demand3.{HalfCount}
+use Rattle.motion.proofs.IntegerLaws.{multiple-negated, difference, swapped-difference, not-below-zero, pos-below}
 use Rattle.motion.proofs.KeptRules.{Keeps, Follows}
 
 -- differences in the direction of X
@@ -60,13 +61,22 @@ module _
     exact-place : (k : ℕ) → E k ≡ along X (pos (W * unitPosition k))
     exact-place k = exact-is k ∙ ap (along X) (any-order a inner c e (f .spread) W k .position-is)
 
-    pub lack-forward : pos 0 <ℤ X → (k : ℕ) → E k -ℤ pos P *ℤ v k .position ≡ pos (short * unitPosition k)
+    lack-forward : pos 0 <ℤ X → (k : ℕ) → E k -ℤ pos P *ℤ v k .position ≡ pos (short * unitPosition k)
     lack-forward h k = rw (exact-place k, place k) (difference-forward X P (D * unitPosition k) (W * unitPosition k) h ∙ lack k)
 
-    pub lack-backward : X <ℤ pos 0 → (k : ℕ) → pos P *ℤ v k .position -ℤ E k ≡ pos (short * unitPosition k)
+    lack-backward : X <ℤ pos 0 → (k : ℕ) → pos P *ℤ v k .position -ℤ E k ≡ pos (short * unitPosition k)
     lack-backward h k = rw (exact-place k, place k) (difference-backward X P (D * unitPosition k) (W * unitPosition k) h ∙ lack k)
 
     -- it is less than half a count
-    pub below-half : (k : ℕ) → 2 * (short * unitPosition k) < unitsPerCount * P
+    below-half : (k : ℕ) → 2 * (short * unitPosition k) < unitsPerCount * P
     below-half k =
         omega (arith, behind-half a (e ∷ c ∷ inner) W D short (f .whole) k (2 ^ 39) (f .short-below) (f .product-most))
+
+    pub half-count : (N : ℕ) → HalfCount X N P E (λ k. v k .position)
+    half-count N =
+        record {
+          never-past = λ s k l. rw (lack-forward s k) (not-below-zero _);
+          below-half = λ s k l. rw (lack-forward s k) (pos-below _ _ (below-half k));
+          never-past-back = λ s k l. rw (lack-backward s k) (not-below-zero _);
+          below-half-back = λ s k l. rw (lack-backward s k) (pos-below _ _ (below-half k));
+        }

@@ -1,16 +1,17 @@
 -- Sizes, differences, the order and the range of signed numbers.
-use mathlib.Core.Bool.{Bool, true, false, cond}
-use mathlib.Core.Path.{_≡_, refl, sym, ap, _∙_}
+use mathlib.Core.Bool.{Bool, cond}
+use mathlib.Core.Path.{_≡_, refl, sym, ap, ap₂, _∙_}
 use Prim.Native.Nat.{ℕ, zero, suc, _+_, _-_, _*_, _^_, _≤_, _<_, zero-le}
-use native.Mathlib.Nat.{mul-zero, le-refl}
+use native.Mathlib.Nat.{mul-zero}
 use native.Mathlib.Omega.{arith}
-use borrow.Author.Tests.{ltb-true, ltb-false, le-ltb}
-use lib.Dec.{ltb, le→leb, lt→ltb}
-use lib.IntN.{ℤ, pos, negsuc, negℤ, natAbs, _+ℤ_, _-ℤ_, _*ℤ_, negℤ-+ℤ, negℤ-negℤ, +ℤ-comm}
+use borrow.Author.Tests.{le-ltb}
+use lib.Dec.{le→leb, lt→ltb}
+use lib.IntN.{ℤ, pos, negsuc, negℤ, natAbs, _+ℤ_, _-ℤ_, _*ℤ_, negℤ-+ℤ, negℤ-negℤ, +ℤ-assoc, +ℤ-comm, +ℤ-idl, +ℤ-invr, +ℤ-negℤ-cancel, sucℤ-*ℤ, zero-*ℤ}
 use lib.Signed.{_≤ℤ_, _<ℤ_}
 use mir.Syntax.{w64}
 use mir.Val.{SFits}
 use Rattle.planner.proofs.Sign.{size-negated}
+use Rattle.planner.proofs.IntegerSizes.{size-sum, size-fits}
 
 pub negated-difference : (x y : ℤ) → negℤ x -ℤ negℤ y ≡ negℤ (x -ℤ y)
 negated-difference x y = sym (negℤ-+ℤ x (negℤ y))
@@ -19,22 +20,6 @@ pub multiple-negated : (m : ℕ) (x : ℤ) → pos m *ℤ negℤ x ≡ negℤ (p
 multiple-negated m (pos zero) = rw (mul-zero m) refl
 multiple-negated m (pos (suc n)) = refl
 multiple-negated m (negsuc n) = sym (negℤ-negℤ (pos (m * suc n)))
-
--- the distance of two natural numbers
-size-below : (m n : ℕ) (t : Bool) → ltb m n ≡ t → natAbs (cond t (negsuc (n - suc m)) (pos (m - n))) ≡ (m - n) + (n - m)
-size-below m n true h = omega (arith, ltb-true m n h)
-size-below m n false h = omega (arith, ltb-false m n h)
-
-pub size-difference : (m n : ℕ) → natAbs (pos m -ℤ pos n) ≡ (m - n) + (n - m)
-size-difference m zero = omega arith
-size-difference m (suc n) = size-below m (suc n) (ltb m (suc n)) refl
-
--- a sum is at most as large as its parts together
-pub size-sum : (x y : ℤ) → natAbs (x +ℤ y) ≤ natAbs x + natAbs y
-size-sum (pos m) (pos n) = le-refl (m + n)
-size-sum (pos m) (negsuc n) = omega (arith, size-difference m (suc n))
-size-sum (negsuc m) (pos n) = rw (+ℤ-comm (negsuc m) (pos n)) (omega (arith, size-difference n (suc m)))
-size-sum (negsuc m) (negsuc n) = omega arith
 
 pub size-doubled : (x : ℤ) → natAbs (pos 2 *ℤ x) ≡ 2 * natAbs x
 size-doubled (pos n) = refl
@@ -51,6 +36,27 @@ difference m (suc n) h = ap (λ (t : Bool). cond t (negsuc (suc n - suc m)) (pos
 pub swapped-difference : (x y : ℤ) → negℤ x -ℤ negℤ y ≡ y -ℤ x
 swapped-difference x y = ap (λ z. negℤ x +ℤ z) (negℤ-negℤ y) ∙ +ℤ-comm (negℤ x) y
 
+-- what lies at the distance d from u
+pub distance-from : (u d : ℤ) → (u +ℤ d) -ℤ u ≡ d
+distance-from u d = ap (λ z. z -ℤ u) (+ℤ-comm u d) ∙ +ℤ-negℤ-cancel d u
+
+pub exchanged : (a b c d : ℤ) → (a +ℤ b) +ℤ (c +ℤ d) ≡ (a +ℤ c) +ℤ (b +ℤ d)
+exchanged a b c d = cc (+ℤ-assoc a b (c +ℤ d), +ℤ-assoc b c d, +ℤ-comm b c, +ℤ-assoc c b d, +ℤ-assoc a c (b +ℤ d))
+
+-- the difference of two distances from u
+pub shifted-difference : (u x y : ℤ) → (u +ℤ x) -ℤ (u +ℤ y) ≡ x -ℤ y
+shifted-difference u x y =
+    ap (λ z. (u +ℤ x) +ℤ z) (negℤ-+ℤ u y) ∙ exchanged u x (negℤ u) (negℤ y)
+    ∙ ap (λ z. z +ℤ (x -ℤ y)) (+ℤ-invr u) ∙ +ℤ-idl (x -ℤ y)
+
+pub multiple-sum : (n : ℕ) (x y : ℤ) → pos n *ℤ (x +ℤ y) ≡ pos n *ℤ x +ℤ pos n *ℤ y
+multiple-sum zero x y = zero-*ℤ (x +ℤ y) ∙ sym (ap₂ (λ (u v : ℤ). u +ℤ v) (zero-*ℤ x) (zero-*ℤ y))
+multiple-sum (suc n) x y =
+    sucℤ-*ℤ (pos n) (x +ℤ y)
+    ∙ ap (λ z. z +ℤ (x +ℤ y)) (multiple-sum n x y)
+    ∙ exchanged (pos n *ℤ x) (pos n *ℤ y) x y
+    ∙ sym (ap₂ (λ (u v : ℤ). u +ℤ v) (sucℤ-*ℤ (pos n) x) (sucℤ-*ℤ (pos n) y))
+
 -- the order
 pub not-below-zero : (n : ℕ) → pos 0 ≤ℤ pos n
 not-below-zero n = record { le = le→leb 0 n zero-le }
@@ -58,16 +64,15 @@ not-below-zero n = record { le = le→leb 0 n zero-le }
 pub pos-below : (m n : ℕ) → m < n → pos m <ℤ pos n
 pos-below m n h = record { lt = lt→ltb m n h }
 
--- what is at most 2^61 in size fits an i64; so does what is at most 2^60, and the sum of two such
-wide-fits : (x : ℤ) → natAbs x ≤ 2 ^ 61 → SFits w64 x
-wide-fits (pos n) h = record { sfits = omega arith }
-wide-fits (negsuc n) h = record { sfits = omega arith }
-
+-- the sum of two that are at most 2^61 in size fits an i64; so does what is at most 2^60
 pub small-fits : (x : ℤ) → natAbs x ≤ 2 ^ 60 → SFits w64 x
-small-fits x h = wide-fits x (omega arith)
+small-fits x h = size-fits x (omega arith)
+
+pub wide-sum-fits : (x y : ℤ) → natAbs x ≤ 2 ^ 61 → natAbs y ≤ 2 ^ 61 → SFits w64 (x +ℤ y)
+wide-sum-fits x y h k = size-fits (x +ℤ y) (omega (arith, size-sum x y))
 
 pub sum-fits : (x y : ℤ) → natAbs x ≤ 2 ^ 60 → natAbs y ≤ 2 ^ 60 → SFits w64 (x +ℤ y)
-sum-fits x y h k = wide-fits (x +ℤ y) (omega (arith, size-sum x y))
+sum-fits x y h k = wide-sum-fits x y (omega arith) (omega arith)
 
 -- whichever is taken from the other
 pub differences-fit : (x y : ℤ) → natAbs x ≤ 2 ^ 60 → natAbs y ≤ 2 ^ 60 → SFits w64 (x -ℤ y) × SFits w64 (y -ℤ x)

@@ -3,10 +3,12 @@ pub mod IntegerLaws
 pub mod CountLaws
 pub mod RoundingLaws
 pub mod RoundedValues
+pub mod StartLaws
 -- The snap at a sample, the sums from rest, and that none leaves its range.
 pub mod OrderedLaws
 pub mod RestLaws
 pub mod InnerSampleLaws
+pub mod OriginLaws
 pub mod StepLaws
 pub mod DirectedSizes
 pub mod StateLaws
@@ -57,6 +59,10 @@ pub mod Demand3Axes
 pub mod AxesTheorems
 pub mod SampleOfOne
 pub mod EndRemainder
+pub mod GivenSamples
+pub mod RoundedFromStart
+pub mod HandOver
+pub mod StartTheorems
 pub mod ExactProfile
 pub mod EitherDirection
 pub mod PlayedTable

@@ -1,7 +1,8 @@
 -- Pairs: the sums of the pairs of a value are the pairs of its sums, and what is carried along for them.
 use mathlib.Core.Path.{_≡_, refl, ap, _∙_}
 use Prim.Native.Nat.{ℕ, zero, suc, _≤_, _^_}
-use lib.IntN.{ℤ, natAbs, _+ℤ_, +ℤ-assoc, +ℤ-comm}
+use native.Mathlib.Omega.{arith}
+use lib.IntN.{ℤ, natAbs, _+ℤ_}
 use mir.Syntax.{w64}
 use mir.Val.{SFits}
 use Rattle.profile.specs.Profile.{sum}
@@ -10,12 +11,10 @@ use Rattle.profile.proofs.SumLaws.{sum-of-equal}
 use Rattle.motion.specs.ForceRows.Doubled.{earlier}
 use Rattle.motion.specs.Inner.Runs.{Writer}
 use Rattle.motion.specs.Inner.Pairs.{pairs, pairWriter}
-use Rattle.motion.proofs.IntegerLaws.{sum-fits}
+use Rattle.planner.proofs.IntegerSizes.{size-sum}
+use Rattle.motion.proofs.IntegerLaws.{exchanged, sum-fits}
 use Rattle.motion.proofs.RowLaws.{Carries}
 use Rattle.motion.proofs.ForceRows.DoubledLaws.{earlier-size}
-
-pub exchanged : (a b c d : ℤ) → (a +ℤ b) +ℤ (c +ℤ d) ≡ (a +ℤ c) +ℤ (b +ℤ d)
-exchanged a b c d = cc (+ℤ-assoc a b (c +ℤ d), +ℤ-assoc b c d, +ℤ-comm b c, +ℤ-assoc c b d, +ℤ-assoc a c (b +ℤ d))
 
 module _ (f : ℕ → ℤ) where
   -- a sum is what it was one sample earlier, and the value there
@@ -37,7 +36,10 @@ unfolding sums
 sums-pairs zero f k = refl
 sums-pairs (suc n) f k = sum-of-equal (sums n (pairs f)) (pairs (sums n f)) (sums-pairs n f) k ∙ sum-pairs (sums n f) k
 
--- a pair of small values fits
+-- a pair of small values is at most twice as large, and fits
+pub pair-size : (f : ℕ → ℤ) → ((k : ℕ) → natAbs (f k) ≤ 2 ^ 60) → (k : ℕ) → natAbs (pairs f k) ≤ 2 ^ 61
+pair-size f h k = omega (arith, size-sum (f k) (earlier f 1 k), h k, earlier-size f (2 ^ 60) h 1 k)
+
 pub pair-fits : (f : ℕ → ℤ) → ((k : ℕ) → natAbs (f k) ≤ 2 ^ 60) → (k : ℕ) → SFits w64 (pairs f k)
 pair-fits f h k = sum-fits (f k) (earlier f 1 k) (h k) (earlier-size f (2 ^ 60) h 1 k)
 

@@ -13,25 +13,25 @@ use Rattle.planner.specs.Outcome.{samplesOf}
 use Rattle.planner.specs.Third.{thirdSamplesOf}
 use Rattle.planner.specs.declared.Move.{Move}
 use Rattle.profile.specs.Profile.{sum}
-use Rattle.motion.specs.Sampling.{thirdValuesOf, Motion}
+use Rattle.motion.specs.Sampling.{thirdValuesOf, unitsOf, fromStart, Motion}
 use Rattle.motion.specs.Demand3.{Demand3Of, Demand3, ThirdDemand3}
 use Rattle.motion.specs.declared.Sample.{Sample}
 use Rattle.motion.proofs.IntegerLaws.{negated-difference, swapped-difference}
-use Rattle.motion.proofs.SumsFromRest.{sums-up, sum-same}
+use Rattle.motion.proofs.SumsFromRest.{sums-from, sums-up, sum-same}
 use Rattle.motion.proofs.EitherDirection.{Along, not-positive, along-either, below-either}
 
 module _ (m : Move) (x : Motion) (jerk : ℕ → ℤ) (table : List ℤ) where
   abbrev pub place : ℕ → ℤ
   place k = getD table k (pos 0)
 
-  -- what a place lacks of the exact profile, times P
+  -- what a place lacks of the exact profile, times P, read from the start
   abbrev pub lacking : ℕ → ℤ
-  lacking k = x .exact k -ℤ pos (x .product) *ℤ place k
+  lacking k = x .exact k -ℤ pos (x .product) *ℤ (place k -ℤ unitsOf (m .start))
 
   pub record Played : Type 0 where
     pub places : x .samples < length table
-    -- summed three times from rest
-    pub summed : (k : ℕ) → k ≤ x .samples → place k ≡ sum (sum (sum jerk)) k
+    -- summed three times from rest, from the start on
+    pub summed : (k : ℕ) → k ≤ x .samples → place k ≡ fromStart (m .start) (sum (sum (sum jerk)) k)
     pub jerk-most : (k : ℕ) → k ≤ x .samples → natAbs (jerk k) ≤ m .jerk
     pub acceleration-most : (k : ℕ) → k ≤ x .samples → natAbs (sum jerk k) ≤ m .acceleration
     pub velocity-most : (k : ℕ) → k ≤ x .samples → natAbs (sum (sum jerk) k) ≤ m .velocity
@@ -61,30 +61,33 @@ module _
     velocity-is : (k : ℕ) → k ≤ N → d .at k .velocity ≡ sum (sum jerkAt) k
     velocity-is = sums-up N _ _ (sum jerkAt) (d .kept .velocity-rest) (d .kept .velocity-sum) acceleration-is
 
-    position-is : (k : ℕ) → k ≤ N → d .at k .position ≡ sum (sum (sum jerkAt)) k
-    position-is = sums-up N _ _ (sum (sum jerkAt)) (d .kept .position-rest) (d .kept .position-sum) velocity-is
+    position-is : (k : ℕ) → k ≤ N → d .at k .position ≡ fromStart (m .start) (sum (sum (sum jerkAt)) k)
+    position-is = sums-from (unitsOf (m .start)) N _ _ (sum (sum jerkAt)) (d .kept .position-rest) (d .kept .position-sum) velocity-is
 
     -- the lines hold of the table's places as they hold of the entry's positions
-    lack-is : (k : ℕ) → k ≤ N → x .exact k -ℤ pos (x .product) *ℤ d .at k .position ≡ lacking m x jerkAt table k
-    lack-is k l = ap (λ y. x .exact k -ℤ pos (x .product) *ℤ y) (sym (d .table-position k l))
+    abbrev way : ℕ → ℤ
+    way k = d .at k .position -ℤ unitsOf (m .start)
 
-    back-is : (k : ℕ) → k ≤ N → pos (x .product) *ℤ d .at k .position -ℤ x .exact k ≡ negℤ (lacking m x jerkAt table k)
+    lack-is : (k : ℕ) → k ≤ N → x .exact k -ℤ pos (x .product) *ℤ way k ≡ lacking m x jerkAt table k
+    lack-is k l = ap (λ y. x .exact k -ℤ pos (x .product) *ℤ (y -ℤ unitsOf (m .start))) (sym (d .table-position k l))
+
+    back-is : (k : ℕ) → k ≤ N → pos (x .product) *ℤ way k -ℤ x .exact k ≡ negℤ (lacking m x jerkAt table k)
     back-is k l =
-        sym (swapped-difference (x .exact k) (pos (x .product) *ℤ d .at k .position))
-        ∙ negated-difference (x .exact k) (pos (x .product) *ℤ d .at k .position)
+        sym (swapped-difference (x .exact k) (pos (x .product) *ℤ way k))
+        ∙ negated-difference (x .exact k) (pos (x .product) *ℤ way k)
         ∙ ap negℤ (lack-is k l)
 
     short-at : (k : ℕ) → k ≤ N → Along (m .displacement) (lacking m x jerkAt table k)
     short-at k l =
         along-either (m .displacement) (lacking m x jerkAt table k) moves
-        (λ s. subst (λ y. pos 0 ≤ℤ y) (lack-is k l) (d .kept .never-past s k l))
-        (λ s. subst (λ y. pos 0 ≤ℤ y) (back-is k l) (d .kept .never-past-back s k l))
+        (λ s. subst (λ y. pos 0 ≤ℤ y) (lack-is k l) (d .kept .half-count .never-past s k l))
+        (λ s. subst (λ y. pos 0 ≤ℤ y) (back-is k l) (d .kept .half-count .never-past-back s k l))
 
     near-at : (k : ℕ) → k ≤ N → 2 * natAbs (lacking m x jerkAt table k) < unitsPerCount * x .product
     near-at k l =
         below-either (m .displacement) (lacking m x jerkAt table k) (unitsPerCount * x .product) (short-at k l) moves
-        (λ s. subst (λ y. (pos 2 *ℤ y) <ℤ pos (unitsPerCount * x .product)) (lack-is k l) (d .kept .below-half s k l))
-        (λ s. subst (λ y. (pos 2 *ℤ y) <ℤ pos (unitsPerCount * x .product)) (back-is k l) (d .kept .below-half-back s k l))
+        (λ s. subst (λ y. (pos 2 *ℤ y) <ℤ pos (unitsPerCount * x .product)) (lack-is k l) (d .kept .half-count .below-half s k l))
+        (λ s. subst (λ y. (pos 2 *ℤ y) <ℤ pos (unitsPerCount * x .product)) (back-is k l) (d .kept .half-count .below-half-back s k l))
 
     onward-at : (k : ℕ) → k ≤ N → Along (m .displacement) (d .at k .velocity)
     onward-at k l =
@@ -124,15 +127,18 @@ played-snap d =
 
 -- In the third order the places are the sums of the jerk in its stretches, and there is no snap.
 pub record PlayedThird (m : Move) (snap : ℕ → ℤ) (table : List ℤ) : Type 0 where
-  pub switched : (k : ℕ) → k ≤ thirdSamplesOf m → getD table k (pos 0) ≡ sum (sum (sum (λ i. thirdValuesOf m i .jerk))) k
+  pub switched :
+      (k : ℕ) → k ≤ thirdSamplesOf m → getD table k (pos 0) ≡ fromStart (m .start) (sum (sum (sum (λ i. thirdValuesOf m i .jerk))) k)
   pub snap-none : (k : ℕ) → k ≤ thirdSamplesOf m → snap k ≡ pos 0
 
 pub played-third :
     {m : Move} {sample : ℕ → Result ℕ Sample} {table : List ℤ} → 1 ≤ natAbs (m .displacement)
     → (d : ThirdDemand3 m sample table)
     → PlayedThird m (λ k. d .shared .at k .snap) table
-played-third moves d =
+played-third {m} moves d =
     record {
-      switched = λ k l. played moves (d .shared) .summed k l ∙ sum-same _ _ _ (sum-same _ _ _ (sum-same _ _ _ (d .jerk-switched))) k l;
+      switched = λ k l.
+          played moves (d .shared) .summed k l
+          ∙ ap (fromStart (m .start)) (sum-same _ _ _ (sum-same _ _ _ (sum-same _ _ _ (d .jerk-switched))) k l);
       snap-none = d .snap-none;
     }

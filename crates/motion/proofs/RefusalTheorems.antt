@@ -11,7 +11,7 @@ use lib.Ieee.{Float}
 use lib.IntN.{ℤ}
 use lib.ListN.{length}
 use Rattle.planner.specs.Result.{Each, Result, refused, given, Check, check, firstRefusal}
-use Rattle.planner.specs.Order.{FirstToApply}
+use Rattle.planner.specs.Order.{rank, FirstToApply}
 use Rattle.planner.specs.Third.{thirdIntervalsOf, thirdSamplesOf, thirdChecks}
 use Rattle.planner.specs.declared.Move.{Move}
 use Rattle.planner.proofs.Acceptance.{accepted-passes, third-passes}
@@ -138,6 +138,7 @@ untouched =
     }
 
 pub motion-order : (m : Move) → OrderClaim m
+unfolding rank
 motion-order m =
     record {
       sample = λ k. (refl, omega arith);

@@ -1,28 +1,34 @@
 -- What demand 3 and the claim on reference rows assume can be met: the rules' own answers meet the promises of the entries, for every move
 -- and every table.
 use mathlib.Core.List.{List, []}
-use mathlib.Core.Path.{refl, sym, subst}
-use Prim.Native.Nat.{ℕ, _+_, _≤_}
-use native.Mathlib.Nat.{le-of-eq}
-use lib.IntN.{ℤ, pos}
+use mathlib.Core.Path.{_≡_, refl, sym, subst}
+use Prim.Native.Nat.{ℕ, _+_, _≤_, zero-le}
+use native.Mathlib.Nat.{le-of-eq, le-refl}
+use native.Mathlib.Omega.{arith}
+use lib.IntN.{ℤ, pos, _+ℤ_}
 use lib.ListN.{length, replicate, length-replicate}
-use Rattle.planner.specs.Result.{Each, Result, Check}
+use Rattle.planner.specs.Result.{Each, Result, given, Check}
+use Rattle.planner.specs.Outcome.{distanceOf, intervalsOf, samplesOf, planOf}
 use Rattle.planner.specs.Claims.{Accepted, mirrored}
 use Rattle.planner.specs.ThirdClaims.{ThirdAccepted}
 use Rattle.planner.specs.declared.Move.{Move}
 use Rattle.planner.proofs.RefusalLaws.{Passes}
-use Rattle.planner.proofs.Acceptance.{accepted-passes, third-passes}
+use Rattle.planner.proofs.Acceptance.{accepted-passes, accepted-outcome, third-passes}
 use Rattle.planner.proofs.Mirror.{mirror, third-mirror}
 use Rattle.planner.proofs.StarredMoves.{firstStarred, first-accepted, first-third-accepted}
-use Rattle.motion.specs.Sampling.{Motion, fourthOrder, thirdOrder}
+use Rattle.planner.proofs.StartAdds.{start-adds}
+use Rattle.motion.specs.Sampling.{valuesOf, fromStart, Motion, fourthOrder, thirdOrder, Samples}
 use Rattle.motion.specs.Tables.{rowsFrom, tableOf, tableResult, referenceRow, Fills, FillsPositions, FillsReference}
 use Rattle.motion.specs.Demand3.{Demand3, ThirdDemand3}
 use Rattle.motion.specs.ReferenceClaims.{ReferenceRows, ReferenceOf}
+use Rattle.motion.specs.StartClaims.{in-fourth}
+use Rattle.motion.specs.EndClaims.{fourth-ends, HandOver}
 use Rattle.motion.proofs.RoundedValues.{withRounding}
 use Rattle.motion.proofs.FillLaws.{filled-outcome}
 use Rattle.motion.proofs.SamplingLaws.{ruleSample, rule-samples}
-use Rattle.motion.proofs.Demand3.{sampled, demand-3, third-demand-3}
+use Rattle.motion.proofs.Demand3.{ruleAt, sampled, demand-3, third-demand-3}
 use Rattle.motion.proofs.ReferenceTheorems.{reference-rows}
+use Rattle.motion.proofs.HandOver.{hand-over}
 
 -- the outcome and the table of the rule itself, for any rule of rows
 module _ {A : Type 0} (x : Motion) (own : List (Check ℕ)) (rows : ℕ) (row : ℕ → A) (old : List A) where
@@ -50,14 +56,14 @@ module _ (x : Motion) where
   zeros = zeroTable rows
 
   abbrev pub rulePositions : Result ℕ ℕ
-  rulePositions = ruleResult x [] rows (λ k. x .values k .position) zeros
+  rulePositions = ruleResult x [] rows (λ k. fromStart (x .start) (x .values k .position)) zeros
 
   abbrev pub positions : List ℤ
-  positions = ruleTable x [] rows (λ k. x .values k .position) zeros
+  positions = ruleTable x [] rows (λ k. fromStart (x .start) (x .values k .position)) zeros
 
   pub positions-fill : FillsPositions x zeros rulePositions positions
   unfolding FillsPositions
-  positions-fill = rule-fills x [] rows (λ k. x .values k .position) zeros
+  positions-fill = rule-fills x [] rows (λ k. fromStart (x .start) (x .values k .position)) zeros
 
   pub room : rows ≤ length zeros
   room = room-for rows
@@ -72,29 +78,37 @@ rule-third-demand-3 m h =
     let x = thirdOrder m in
     third-demand-3 m h (ruleSample x) (λ k l. rule-samples x k refl) (zeros x) (positions x) _ (room x) (positions-fill x)
 
+-- the rule's own sample is given, for a move that the planner does not refuse
+rule-given :
+    (x : Motion) (p : Each Passes (x .planChecks)) {k : ℕ} → k ≤ x .samples → Samples x k (given (ruleAt x p k))
+rule-given x p {k} l = rule-samples x k (sym (sampled x p l (rule-samples x k refl)))
+
 -- the reference rows of the rule itself, for a move that the planner does not refuse
 module _ (x : Motion) where
   abbrev referenceCount : ℕ
   referenceCount = x .samples + 2
 
+  abbrev ownRow : ℕ → ℤ
+  ownRow = referenceRow (x .start) (x .samples) (x .values)
+
   abbrev pub references : List ℤ
-  references = ruleTable x [] referenceCount (referenceRow (x .samples) (x .values)) (zeroTable referenceCount)
+  references = ruleTable x [] referenceCount ownRow (zeroTable referenceCount)
 
-  abbrev pub RuleReference : (X : ℤ) → Type 0
-  RuleReference X = ReferenceRows X (x .samples) (λ k. withRounding (x .values k)) references
+  abbrev pub RuleReference : Move → Type 0
+  RuleReference m = ReferenceRows (m .displacement) (m .start) (x .samples) (λ k. withRounding (x .start) (x .values k)) references
 
-  rule-reference : (m : Move) → ReferenceOf m x → Each Passes (x .planChecks) → RuleReference (m .displacement)
+  rule-reference : (m : Move) → ReferenceOf m x → Each Passes (x .planChecks) → RuleReference m
   unfolding FillsReference
   rule-reference m claim p =
-      let fill = rule-fills x [] referenceCount (referenceRow (x .samples) (x .values)) (zeroTable referenceCount) in
+      let fill = rule-fills x [] referenceCount ownRow (zeroTable referenceCount) in
       let whole = filled-outcome p (room-for referenceCount) tt fill in
-      claim _ (λ k l. rule-samples x k (sym (sampled x p l (rule-samples x k refl)))) (zeroTable referenceCount) references referenceCount
-      (subst (λ o. Fills x [] referenceCount (referenceRow (x .samples) (x .values)) (zeroTable referenceCount) o references) whole fill)
+      claim _ (λ k l. rule-given x p l) (zeroTable referenceCount) references referenceCount
+      (subst (λ o. Fills x [] referenceCount ownRow (zeroTable referenceCount) o references) whole fill)
 
-pub rule-reference-rows : (m : Move) → Accepted m → RuleReference (fourthOrder m) (m .displacement)
+pub rule-reference-rows : (m : Move) → Accepted m → RuleReference (fourthOrder m) m
 rule-reference-rows m h = rule-reference (fourthOrder m) m (reference-rows m .fourth) (accepted-passes m h)
 
-pub rule-third-reference-rows : (m : Move) → ThirdAccepted m → RuleReference (thirdOrder m) (m .displacement)
+pub rule-third-reference-rows : (m : Move) → ThirdAccepted m → RuleReference (thirdOrder m) m
 rule-third-reference-rows m h = rule-reference (thirdOrder m) m (reference-rows m .third) (third-passes m h)
 
 -- closed instances, forward and backward: the first of document 01's moves, and its mirror
@@ -114,14 +128,44 @@ third-demand-3-forward = rule-third-demand-3 firstStarred first-third-accepted
 pub third-demand-3-backward : ThirdDemand3 back (ruleSample (thirdOrder back)) (positions (thirdOrder back))
 third-demand-3-backward = rule-third-demand-3 back (third-mirror firstStarred .0 first-third-accepted)
 
-pub reference-rows-forward : RuleReference (fourthOrder firstStarred) (firstStarred .displacement)
+pub reference-rows-forward : RuleReference (fourthOrder firstStarred) firstStarred
 reference-rows-forward = rule-reference-rows firstStarred first-accepted
 
-pub reference-rows-backward : RuleReference (fourthOrder back) (back .displacement)
+pub reference-rows-backward : RuleReference (fourthOrder back) back
 reference-rows-backward = rule-reference-rows back (mirror firstStarred .0 first-accepted)
 
-pub third-reference-rows-forward : RuleReference (thirdOrder firstStarred) (firstStarred .displacement)
+pub third-reference-rows-forward : RuleReference (thirdOrder firstStarred) firstStarred
 third-reference-rows-forward = rule-third-reference-rows firstStarred first-third-accepted
 
-pub third-reference-rows-backward : RuleReference (thirdOrder back) (back .displacement)
+pub third-reference-rows-backward : RuleReference (thirdOrder back) back
 third-reference-rows-backward = rule-third-reference-rows back (third-mirror firstStarred .0 first-third-accepted)
+
+-- two accepted moves, the next from the count where the first one ends: the rule's own samples meet what `hand-over` assumes
+pub rule-hand-over :
+    (m next : Move) → Accepted m → Accepted next → next .start ≡ m .start +ℤ m .displacement
+    → HandOver (m .displacement) (next .start) (planOf (distanceOf m) (intervalsOf m) .shortfall)
+    (withRounding (m .start) (valuesOf m (samplesOf m))) (withRounding (next .start) (valuesOf next 0))
+rule-hand-over m next h l =
+    hand-over m next _ _ _
+    (fourth-ends m _ (record { outcome-is = sym (accepted-outcome m h) }) _
+    (rule-given (fourthOrder m) (accepted-passes m h) (le-refl (samplesOf m))))
+    (in-fourth next _ (rule-given (fourthOrder next) (accepted-passes next l) zero-le))
+
+-- a closed instance: the first starred move, and the same again from where it ended
+abbrev again : Move
+again =
+    record {
+      displacement = firstStarred .displacement;
+      velocity = firstStarred .velocity;
+      acceleration = firstStarred .acceleration;
+      jerk = firstStarred .jerk;
+      snap = firstStarred .snap;
+      start = pos 8;
+    }
+
+pub hand-over-again :
+    HandOver (pos 8) (pos 8) (planOf (distanceOf firstStarred) (intervalsOf firstStarred) .shortfall)
+    (withRounding (pos 0) (valuesOf firstStarred (samplesOf firstStarred))) (withRounding (pos 8) (valuesOf again 0))
+hand-over-again =
+    rule-hand-over firstStarred again first-accepted
+    (start-adds again .fourth .1 (first-accepted, record { start = omega arith; end = omega arith })) refl

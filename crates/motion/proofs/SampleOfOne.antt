@@ -5,6 +5,7 @@ use Prim.Native.Nat.{ℕ, _≤_, _<_}
 use native.Mathlib.Decide.{decLe}
 use native.Mathlib.Omega.{arith}
 use borrow.Author.Tests.{lt-ltb, le-ltb}
+use lib.IntN.{pos}
 use Rattle.planner.specs.Intervals.{Intervals, N, D}
 use Rattle.planner.specs.Result.{Result, refused, given, padded}
 use Rattle.planner.specs.Outcome.{distanceOf, intervalsOf, samplesOf, intervalsIn, checks, outcomeOf}
@@ -39,7 +40,7 @@ module _ (m : Move) (k : ℕ) where
 
 module _ (m : Move) (others : List Move) (k : ℕ) where
   abbrev Alone : Result ℕ Sample → Type 0
-  Alone o = SamplesAxes 1 (m ∷ others) k (outcomeOfOne (λ x. tt) o) (placesOfOne restSample o)
+  Alone o = SamplesAxes 1 (m ∷ others) k (outcomeOfOne (λ x. tt) o) (placesOfOne (restSample (pos 0)) o)
 
   abbrev Planned : Result ℕ Plan → Type 0
   Planned o = outcomeOfOne (λ x. N (intervalsIn x)) o ≡ axesResult 1 (m ∷ others)
@@ -54,11 +55,11 @@ module _ (m : Move) (others : List Move) (k : ℕ) where
     set-given : given (N (intervalsOf m)) ≡ axesResult 1 (m ∷ others)
     set-given = subst Planned (accepted-outcome m h) planned
 
-    within : k ≤ N (intervalsOf m) → Alone (given (sampleOf (valuesOf m k) r))
+    within : k ≤ N (intervalsOf m) → Alone (given (sampleOf (m .start) (valuesOf m k) r))
     within l =
         samples-given 1 (m ∷ others) k set-given l
         (placed-rows 1 (m ∷ others) k
-        (ap (λ (x : Sample). padded mostAxes restSample (x ∷ [])) (row-of (commonSamples (m ∷ [])) m k (same-values m k h) r)))
+        (ap (λ (x : Sample). padded mostAxes (restSample (pos 0)) (x ∷ [])) (row-of (commonSamples (m ∷ [])) m k (same-values m k h) r)))
 
     past : N (intervalsOf m) < k → Alone (refused 9)
     past = samples-past 1 (m ∷ others) k set-given

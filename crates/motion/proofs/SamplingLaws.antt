@@ -22,7 +22,8 @@ module _ (x : Motion) (k : ℕ) where
   pub only-sample : {o : Result ℕ Sample} → Samples x k o → o ≡ ruleSample
   unfolding sampleWith
   only-sample h =
-      h .outcome-is ∙ ap (λ (s : Sample). firstRefusal (sampleChecks x k) (given s)) (one-rounded-sample (x .values k) (h .rounding))
+      h .outcome-is
+      ∙ ap (λ (s : Sample). firstRefusal (sampleChecks x k) (given s)) (one-rounded-sample (x .start) (x .values k) (h .rounding))
 
   -- the planner's refusal is the entry's
   pub sample-refused : {Y : Type 0} (y : Y) (n : ℕ) → refused n ≡ firstRefusal (x .planChecks) (given y) → Samples x k (refused n)
@@ -35,9 +36,9 @@ module _ {x : Motion} {n : ℕ} {v : ℕ → Values} {k : ℕ} (f : PlannedAs x 
   sample-past l =
       rule-samples x k (sym (applies (x .planChecks) (f .pass) 9 _ _ (lt-ltb _ k (subst (λ (n : ℕ). n < k) (f .samples-are) l))))
 
-  pub sample-given : {r : Sample} → k ≤ n → IsSampleOf (v k) r → Samples x k (given r)
+  pub sample-given : {r : Sample} → k ≤ n → IsSampleOf (x .start) (v k) r → Samples x k (given r)
   unfolding sampleWith
   sample-given l s =
       rule-samples x k
-      (ap given (s .sample-is ∙ one-rounded-sample _ (s .rounding) ∙ ap withRounding (f .values-are k))
+      (ap given (s .sample-is ∙ one-rounded-sample (x .start) _ (s .rounding) ∙ ap (withRounding (x .start)) (f .values-are k))
       ∙ sym (passes (x .planChecks) (f .pass) 9 _ _ (le-ltb _ k (subst (λ (n : ℕ). k ≤ n) (f .samples-are) l))))

@@ -1,6 +1,6 @@
--- The sums of a plan's snap in the move's direction are the profile's values, and none leaves its range.
+-- The sums of a plan's snap in the move's direction are the profile's values, and none leaves its range, from any origin within 2^61.
 use mathlib.Core.List.{[], _∷_}
-use mathlib.Core.Path.{_≡_, ap, _∙_, fun-ext}
+use mathlib.Core.Path.{_≡_, ap, subst, _∙_, fun-ext}
 use Prim.Native.Nat.{ℕ, suc, _*_, _≤_, _^_}
 use native.Mathlib.Nat.{le-trans}
 use lib.IntN.{ℤ, natAbs}
@@ -15,7 +15,7 @@ use Rattle.profile.proofs.ValueLaws.{value-size}
 use Rattle.profile.proofs.SumSizes as size
 use Rattle.motion.specs.Sampling.{valuesAt}
 use Rattle.motion.specs.declared.state.State.{State}
-use Rattle.motion.specs.Inner.Steps.{StepFits, stateAt}
+use Rattle.motion.specs.Inner.Steps.{StepFits, sumFrom, stateAt, stateFrom}
 use Rattle.motion.specs.Inner.Planned.{widthsOf, WithinRange, directedSnap}
 use Rattle.motion.specs.Inner.SegmentLists.{fourthSegments}
 use Rattle.motion.proofs.OrderedLaws.{spread, fourthJerk, fourth-jerk}
@@ -84,11 +84,17 @@ module _ (X : ℤ) (t : Intervals) (D : ℕ) (h : WithinRange t D) where
   unfolding product
   reach-speed = sizes.reach-speed over (h .reach)
 
-  pub step-fits : (k : ℕ) → k ≤ 2 ^ 60 → StepFits (stateAt snap k) (valuesAt X t D k .snap)
-  unfolding product sum sums
-  step-fits k l =
-      sizes.sums-fit over (h .reach) k l _
+  pub step-fits :
+      (origin : ℤ) → natAbs origin ≤ 2 ^ 61 → (k : ℕ) → k ≤ 2 ^ 60 → StepFits (stateFrom origin snap k) (valuesAt X t D k .snap)
+  unfolding product sum sums sumFrom
+  step-fits origin near k l =
+      sizes.sums-fit over (h .reach) origin near k l _
       (small-fits _ (jerk-below (2 ^ 60) reach-speed (suc k)))
+
+  pub distance-below : (k : ℕ) → natAbs (valuesAt X t D k .position) ≤ 2 ^ 60
+  unfolding product sum sums
+  distance-below k =
+      subst (λ (s : State). natAbs (s .position) ≤ 2 ^ 60) (state-is X t D k) (sizes.position-below over (h .reach) k)
 
   pub snap-small : D ≤ 2 ^ 60
   unfolding product

@@ -3,7 +3,7 @@ use mathlib.Core.Path.{_≡_, refl, sym, ap, ap₂, _∙_}
 use Prim.Native.Nat.{ℕ, zero, suc, _+_, _≤_, _<_}
 use native.Mathlib.Numerals.{add-one}
 use native.Mathlib.Omega.{arith}
-use lib.IntN.{ℤ, pos, _+ℤ_}
+use lib.IntN.{ℤ, pos, _+ℤ_, +ℤ-assoc, +ℤ-idl, +ℤ-idr}
 use Rattle.planner.specs.Quantities.{along}
 use Rattle.planner.specs.Intervals.{Intervals}
 use Rattle.planner.proofs.DirectionLaws.{along-zero, along-sum}
@@ -56,7 +56,23 @@ module _ (X : ℤ) (t : Intervals) (D : ℕ) where
   unfolding valuesAt profile.jerk sum
   jerk-rest = along-zero X
 
--- a value that starts at 0 and grows by another is its sum
+-- a value that starts at u and grows by another is its sum from there
+pub sums-from :
+    (u : ℤ) (N : ℕ) (f g h : ℕ → ℤ)
+    → f 0 ≡ u
+    → ((k : ℕ) → k < N → f (k + 1) ≡ f k +ℤ g k)
+    → ((k : ℕ) → k ≤ N → g k ≡ h k)
+    → (k : ℕ)
+    → k ≤ N
+    → f k ≡ u +ℤ sum h k
+unfolding sum
+sums-from u N f g h first step same zero l = first ∙ sym (+ℤ-idr u)
+sums-from u N f g h first step same (suc k) l =
+    ap f (sym (add-one k)) ∙ step k l
+    ∙ ap₂ (λ x y. x +ℤ y) (sums-from u N f g h first step same k (omega arith)) (same k (omega arith))
+    ∙ +ℤ-assoc u (sum h k) (h k)
+
+-- from rest
 pub sums-up :
     (N : ℕ) (f g h : ℕ → ℤ)
     → f 0 ≡ pos 0
@@ -65,10 +81,7 @@ pub sums-up :
     → (k : ℕ)
     → k ≤ N
     → f k ≡ sum h k
-unfolding sum
-sums-up N f g h rest step same zero l = rest
-sums-up N f g h rest step same (suc k) l =
-    ap f (sym (add-one k)) ∙ step k l ∙ ap₂ (λ x y. x +ℤ y) (sums-up N f g h rest step same k (omega arith)) (same k (omega arith))
+sums-up N f g h rest step same k l = sums-from (pos 0) N f g h rest step same k l ∙ +ℤ-idl (sum h k)
 
 -- values that are the same up to N have the same sums there
 pub sum-same : (N : ℕ) (f g : ℕ → ℤ) → ((k : ℕ) → k ≤ N → f k ≡ g k) → (k : ℕ) → k ≤ N → sum f k ≡ sum g k

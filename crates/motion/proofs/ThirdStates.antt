@@ -1,16 +1,17 @@
--- The sums of a third-order plan's jerk in the move's direction: the profile's values, and none leaves its range.
+-- The sums of a third-order plan's jerk in the move's direction: the profile's values, and none leaves its range, from any
+-- origin within 2^61.
 use mathlib.Core.List.{[]}
-use mathlib.Core.Path.{_≡_, ap, fun-ext}
+use mathlib.Core.Path.{_≡_, ap, subst, fun-ext}
 use Prim.Native.Nat.{ℕ, _≤_, _^_}
-use lib.IntN.{ℤ, pos, +ℤ-idr}
+use lib.IntN.{ℤ, pos, natAbs, +ℤ-idr}
 use Rattle.planner.specs.Quantities.{along}
 use Rattle.planner.specs.Third.{ThirdIntervals}
 use Rattle.profile.specs.Profile.{switchedIn}
 use Rattle.profile.specs.Inner.Repeated.{sums}
 use Rattle.profile.specs.Inner.Widths.{product}
 use Rattle.profile.proofs.SumSizes as size
-use Rattle.motion.specs.Sampling.{thirdValuesAt}
-use Rattle.motion.specs.Inner.Steps.{StepFits, thirdStateAt}
+use Rattle.motion.specs.Sampling.{Values, thirdValuesAt}
+use Rattle.motion.specs.Inner.Steps.{StepFits, sumFrom, thirdStateAt, thirdStateFrom}
 use Rattle.motion.specs.Inner.Planned.{ThirdWithinRange, thirdWidthsOf, valuesIn}
 use Rattle.motion.specs.Inner.SegmentLists.{thirdSegments}
 use Rattle.motion.proofs.IntegerLaws.{small-fits}
@@ -40,13 +41,19 @@ module _ (X : ℤ) (t : ThirdIntervals) (D : ℕ) where
     pub over : DirectedOver X (t .b) [] (t .c) (t .e) D directedJerk
     over = record { one = h .ordered .one-b; spread = third-spread (h .ordered); is = directed-jerk }
 
-    pub third-step-fits : (k : ℕ) → k ≤ 2 ^ 60 → StepFits (thirdStateAt directedJerk k) (pos 0)
-    unfolding product
-    third-step-fits k l =
+    pub third-step-fits :
+        (origin : ℤ) → natAbs origin ≤ 2 ^ 61 → (k : ℕ) → k ≤ 2 ^ 60 → StepFits (thirdStateFrom origin directedJerk k) (pos 0)
+    unfolding product sumFrom
+    third-step-fits origin near k l =
         let speed = sizes.reach-speed over (h .reach) in
-        sizes.sums-fit over (h .reach) k l (pos 0)
+        sizes.sums-fit over (h .reach) origin near k l (pos 0)
         (rw (+ℤ-idr (directedJerk k))
         (small-fits _ (sizes.jerk-below over (2 ^ 60) speed k)))
+
+    pub third-distance-below : (k : ℕ) → natAbs (thirdValuesAt X t D k .position) ≤ 2 ^ 60
+    unfolding product sums
+    third-distance-below k =
+        subst (λ (v : Values). natAbs (v .position) ≤ 2 ^ 60) (third-values k) (sizes.position-below over (h .reach) k)
 
     pub jerk-small : D ≤ 2 ^ 60
     unfolding product

@@ -1,4 +1,4 @@
--- Document 02, request 1: one sample of every axis of a set.
+-- Document 02, requests 1 and 7: one sample of every axis of a set.
 use mathlib.Core.Bool.{cond}
 use mathlib.Core.List.{List, [], _∷_, _++_}
 use mathlib.Core.Path.{_≡_}
@@ -10,7 +10,7 @@ use Rattle.planner.specs.Result.{Result, refused, given, Check, check, firstRef
 use Rattle.planner.specs.Outcome.{distanceOf, intervalsOf}
 use Rattle.planner.specs.Axes.{raised, atRest, commonSamples, withPlace, counted, axesChecks, axesPlaces}
 use Rattle.planner.specs.declared.Move.{Move}
-use Rattle.motion.specs.Sampling.{Values, valuesAt, sampleOf, Rounding}
+use Rattle.motion.specs.Sampling.{Values, valuesAt, unitsOf, sampleOf, Rounding}
 use Rattle.motion.specs.Answer.{number}
 use Rattle.motion.specs.declared.Sample.{Sample}
 use Rattle.motion.specs.declared.AxesSampleAnswer.{AxesSampleAnswer}
@@ -19,9 +19,18 @@ use Rattle.motion.specs.declared.AxesSampleAnswer.the-variants.{Sampled,
 abbrev pub restValues : Values
 restValues = record { snap = pos 0; jerk = pos 0; acceleration = pos 0; velocity = pos 0; position = pos 0 }
 
-abbrev pub restSample : Sample
-restSample =
-    record { snap = pos 0; jerk = pos 0; acceleration = pos 0; velocity = pos 0; position = pos 0; count = pos 0; remainder = pos 0 }
+-- Of an axis at rest at this count. At 0 it is all zeros, as in the places without an axis.
+abbrev pub restSample : (start : ℤ) → Sample
+restSample start =
+    record {
+      snap = pos 0;
+      jerk = pos 0;
+      acceleration = pos 0;
+      velocity = pos 0;
+      position = unitsOf start;
+      count = start;
+      remainder = pos 0;
+    }
 
 -- One axis, where the common duration is n.
 module _ (n : ℕ) (m : Move) where
@@ -49,8 +58,8 @@ module _ (count : ℕ) (moves : List Move) (k : ℕ) where
     pub rounding : (position : ℤ) → Rounding position
     pub samples-are :
         samples
-        ≡ axesPlaces count moves restSample
-        (λ m. let v = axisValues (commonSamples (counted count moves)) m k in sampleOf v (rounding (v .position))) o
+        ≡ axesPlaces count moves (restSample (pos 0))
+        (λ m. let v = axisValues (commonSamples (counted count moves)) m k in sampleOf (m .start) v (rounding (v .position))) o
 
   -- What the one-sample entry of a set promises of the outcome of its answer, and of the samples beside it.
   pub record SamplesAxes (o : Result (ℕ × ℕ) (Unit {0})) (samples : List Sample) : Type 0 where

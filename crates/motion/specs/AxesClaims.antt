@@ -1,31 +1,32 @@
 -- What the promises of a set's entries come to, over any answers that meet them: demand 3 of every axis (`demand-3-axes`), with what its E
--- is (`axis-exact-profile`), and its remainder at the last sample (`axes-end-remainder`); when a sample is refused (`axes-refusals`,
--- `refused-at-sample`); that the promise leaves one answer (`one-axes-sample`) and reads the counted moves alone (`samples-counted-alone`);
--- and that a move alone is the set of one here too (`sample-of-one`).
+-- is (`axis-exact-profile`); when a sample is refused (`axes-refusals`, `refused-at-sample`); that the promise leaves one answer
+-- (`one-axes-sample`) and reads the counted moves alone (`samples-counted-alone`); and that a move alone is the set of one here too
+-- (`sample-of-one`).
 use mathlib.Core.List.{List, _∷_}
 use mathlib.Core.Path.{_≡_}
 use Prim.Native.Nat.{ℕ, _≤_, _<_}
+use lib.IntN.{pos, _-ℤ_}
 use lib.ListN.{length, getD, take}
 use Rattle.planner.specs.Intervals.{P}
 use Rattle.planner.specs.Result.{Result, refused, given}
 use Rattle.planner.specs.Outcome.{intervalsOf}
-use Rattle.planner.specs.Axes.{mostAxes, restPlan, raised, commonSamples, counted, PlansAxes}
+use Rattle.planner.specs.Axes.{mostAxes, raised, commonSamples, counted, PlansAxes}
 use Rattle.planner.specs.AxesClaims.{Moving, Resting, axisAt, AcceptedAxes, CommonDuration, outcomeOfOne, placesOfOne}
 use Rattle.planner.specs.declared.Move.{Move}
 use Rattle.planner.specs.declared.Plan.{Plan}
-use Rattle.motion.specs.Sampling.{fourthOrder, Samples}
+use Rattle.motion.specs.Sampling.{unitsOf, fourthOrder, Samples}
 use Rattle.motion.specs.Axes.{restSample, axisExact, SamplesAxes, axesSampleOutcome}
-use Rattle.motion.specs.Claims.{Only, RefusedBy, EndRemainder}
+use Rattle.motion.specs.Claims.{Only, RefusedBy}
 use Rattle.motion.specs.Demand3.{KeptSnap, Kept, ExactIn}
 use Rattle.motion.specs.declared.Sample.{Sample}
 use Rattle.motion.specs.declared.AxesSample.{AxesSample}
 
 -- "The half-count and bound rules now hold for every axis of a set": the lines of demand 3 over samples 0 to the common N, with the P and E of
--- the axis. One at rest has 0 throughout, and its exact profile "is compared as it stands, not times P".
+-- the axis. One at rest stays at its start, and its exact profile, 0 throughout, "is compared as it stands, not times P".
 pub record KeptAxis (n : ℕ) (m : Move) (at : ℕ → Sample) : Type 0 where
   pub kept-snap : KeptSnap m n at
   pub kept : Kept m n (P (raised n (intervalsOf m))) (axisExact n m) at
-  pub at-rest : Resting m → (k : ℕ) → (at k ≡ restSample) × (axisExact n m k ≡ at k .position)
+  pub at-rest : Resting m → (k : ℕ) → (at k ≡ restSample (m .start)) × (axisExact n m k ≡ at k .position -ℤ unitsOf (m .start))
 
 -- What E is of a moving axis: the exact profile of its raised intervals.
 abbrev pub AxisExactProfileClaim : Type 0
@@ -41,7 +42,7 @@ module _ (count : ℕ) (moves : List Move) where
     -- The values that the entry gives of each axis, for each k from 0 to N.
     pub at : (axis k : ℕ) → Sample
     pub answered : (k : ℕ) → k ≤ N → sample k ≡ given tt
-    pub placed : (i k : ℕ) → i < count → k ≤ N → getD (samples k) i restSample ≡ at i k
+    pub placed : (i k : ℕ) → i < count → k ≤ N → getD (samples k) i (restSample (pos 0)) ≡ at i k
     pub each-kept : (i : ℕ) → i < count → KeptAxis N (axisAt moves i) (at i)
 
   abbrev pub Demand3AxesClaim : Type 0
@@ -51,15 +52,6 @@ module _ (count : ℕ) (moves : List Move) where
       → (sample : ℕ → Result (ℕ × ℕ) (Unit {0})) (samples : ℕ → List Sample)
       → ((k : ℕ) → k ≤ commonSamples (counted count moves) → SamplesAxes count moves k (sample k) (samples k))
       → Demand3Axes o plans sample samples
-
-  -- The remainder of each axis at the common N, by the shortfall of its plan in the set; at rest both are 0.
-  abbrev pub AxesEndRemainderClaim : Type 0
-  AxesEndRemainderClaim =
-      length moves ≡ mostAxes
-      → (N : ℕ) (plans : List Plan) → PlansAxes count moves (given N) plans
-      → (samples : List Sample) → SamplesAxes count moves N (given tt) samples
-      → (i : ℕ) → i < count
-      → EndRemainder (axisAt moves i .displacement) (getD plans i restPlan .shortfall) (getD samples i restSample)
 
   -- A sample of an accepted set is refused exactly where k is above the common N, with 9 and place 0.
   abbrev pub AxesRefusalsClaim : Type 0
@@ -90,4 +82,4 @@ module _ (count : ℕ) (moves : List Move) where
 abbrev pub SampleOfOneClaim : Type 0
 SampleOfOneClaim =
     (m : Move) (others : List Move) (k : ℕ) (o : Result ℕ Sample) → Samples (fourthOrder m) k o
-    → SamplesAxes 1 (m ∷ others) k (outcomeOfOne (λ x. tt) o) (placesOfOne restSample o)
+    → SamplesAxes 1 (m ∷ others) k (outcomeOfOne (λ x. tt) o) (placesOfOne (restSample (pos 0)) o)

@@ -1,25 +1,20 @@
 -- What the promises of the entries come to, over any answers that meet them: one answer (`one-motion-answer`); when a call with an accepted
 -- move is refused (`accepted-refusals`); that a refusal writes nothing (`untouched`); the order of each entry's checks (`motion-order`);
--- the remainder at the last sample (`end-remainder`, `third-end-remainder`); and that the third order does not read S
--- (`snap-unread-motion`).
+-- and that the third order does not read S (`snap-unread-motion`).
 use mathlib.Core.Bool.{false}
 use mathlib.Core.List.{List, [], _∷_}
 use mathlib.Core.Logic.{_⊎_, _↔_}
 use mathlib.Core.Path.{_≡_}
-use Prim.Native.Nat.{ℕ, _+_, _≤_, _<_, _^_}
+use Prim.Native.Nat.{ℕ, _+_, _≤_, _<_}
 use lib.Ieee.{Float}
-use lib.IntN.{ℤ, pos, negℤ, natAbs}
+use lib.IntN.{ℤ}
 use lib.ListN.{length}
-use Rattle.planner.specs.Quantities.{along}
-use Rattle.planner.specs.Result.{Result, refused, given}
+use Rattle.planner.specs.Result.{Result, refused}
 use Rattle.planner.specs.Order.{InOrder}
-use Rattle.planner.specs.Outcome.{samplesOf, Plans}
+use Rattle.planner.specs.Outcome.{samplesOf}
 use Rattle.planner.specs.Claims.{Accepted}
-use Rattle.planner.specs.Third.{thirdSamplesOf, PlansThird}
 use Rattle.planner.specs.ThirdClaims.{ThirdAccepted, withSnap}
 use Rattle.planner.specs.declared.Move.{Move}
-use Rattle.planner.specs.declared.Plan.{Plan}
-use Rattle.planner.specs.declared.ThirdPlan.{ThirdPlan}
 use Rattle.motion.specs.Sampling.{Motion, fourthOrder, thirdOrder, sampleChecks, Samples}
 use Rattle.motion.specs.ForceRows.Machine.{Machine, machineAsRead, machineInRange}
 use Rattle.motion.specs.Tables.{machineCheck, tableChecks, FillsPositions, FillsReference, FillsForce}
@@ -90,32 +85,14 @@ pub record UntouchedClaim : Type 0 where
 
 -- "Where several apply, the lowest number is given": the checks of the entries in their order, which rises (`lowest-given`).
 pub record OrderClaim (m : Move) : Type 0 where
-  pub sample : (k : ℕ) → InOrder (sampleChecks (fourthOrder m) k) (1 ∷ 2 ∷ 3 ∷ 4 ∷ 5 ∷ 6 ∷ 7 ∷ 9 ∷ [])
-  pub table : (rows places : ℕ) → InOrder (tableChecks (fourthOrder m) [] rows places) (1 ∷ 2 ∷ 3 ∷ 4 ∷ 5 ∷ 6 ∷ 7 ∷ 8 ∷ [])
+  pub sample : (k : ℕ) → InOrder (sampleChecks (fourthOrder m) k) (1 ∷ 2 ∷ 3 ∷ 4 ∷ 5 ∷ 6 ∷ 14 ∷ 7 ∷ 9 ∷ [])
+  pub table : (rows places : ℕ) → InOrder (tableChecks (fourthOrder m) [] rows places) (1 ∷ 2 ∷ 3 ∷ 4 ∷ 5 ∷ 6 ∷ 14 ∷ 7 ∷ 8 ∷ [])
   pub force :
       (machine : Machine Float) (rows places : ℕ)
-      → InOrder (tableChecks (fourthOrder m) (machineCheck machine ∷ []) rows places) (1 ∷ 2 ∷ 3 ∷ 4 ∷ 5 ∷ 6 ∷ 7 ∷ 8 ∷ 10 ∷ [])
+      → InOrder (tableChecks (fourthOrder m) (machineCheck machine ∷ []) rows places) (1 ∷ 2 ∷ 3 ∷ 4 ∷ 5 ∷ 6 ∷ 14 ∷ 7 ∷ 8 ∷ 10 ∷ [])
   -- 6 is never given in the third order.
-  pub third-sample : (k : ℕ) → InOrder (sampleChecks (thirdOrder m) k) (1 ∷ 2 ∷ 3 ∷ 4 ∷ 5 ∷ 7 ∷ 9 ∷ [])
-  pub third-table : (rows places : ℕ) → InOrder (tableChecks (thirdOrder m) [] rows places) (1 ∷ 2 ∷ 3 ∷ 4 ∷ 5 ∷ 7 ∷ 8 ∷ [])
-
--- No rule asks it, but a bench relies on it: at the last sample the remainder is minus the shortfall for a positive X, and plus the shortfall
--- for a negative one. So it is below half a count in size, as the half-count rule has it.
-pub record EndRemainder (X : ℤ) (shortfall : ℕ) (last : Sample) : Type 0 where
-  pub remainder-is : last .remainder ≡ negℤ (along X (pos shortfall))
-  pub below-half : natAbs (last .remainder) < 2 ^ 39
-
-abbrev pub EndRemainderClaim : Type 0
-EndRemainderClaim =
-    (m : Move) (plan : Plan) → Plans m (given plan)
-    → (last : Sample) → Samples (fourthOrder m) (samplesOf m) (given last)
-    → EndRemainder (m .displacement) (plan .shortfall) last
-
-abbrev pub ThirdEndRemainderClaim : Type 0
-ThirdEndRemainderClaim =
-    (m : Move) (plan : ThirdPlan) → PlansThird m (given plan)
-    → (last : Sample) → Samples (thirdOrder m) (thirdSamplesOf m) (given last)
-    → EndRemainder (m .displacement) (plan .shortfall) last
+  pub third-sample : (k : ℕ) → InOrder (sampleChecks (thirdOrder m) k) (1 ∷ 2 ∷ 3 ∷ 4 ∷ 5 ∷ 14 ∷ 7 ∷ 9 ∷ [])
+  pub third-table : (rows places : ℕ) → InOrder (tableChecks (thirdOrder m) [] rows places) (1 ∷ 2 ∷ 3 ∷ 4 ∷ 5 ∷ 14 ∷ 7 ∷ 8 ∷ [])
 
 -- Document 02, 3, "S is not read, so refusal 6 is never given there": what the entries promise of a move in the third order they promise of
 -- it with every S, whichever it is.

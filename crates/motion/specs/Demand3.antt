@@ -27,20 +27,28 @@ pub record KeptSnap (m : Move) (N : ℕ) (at : ℕ → Sample) : Type 0 where
   -- Bound rule, as it was sent.
   pub snap-bound : (k : ℕ) → k ≤ N → natAbs (at k .snap) ≤ m .snap
 
-module _ (m : Move) (N P : ℕ) (E : ℕ → ℤ) (at : ℕ → Sample) where
+-- Half-count rule, of any positions.
+module _ (X : ℤ) (N P : ℕ) (E position : ℕ → ℤ) where
   -- What the position lacks of the exact profile, times P: for a positive X, and for a negative one.
   abbrev lack : (k : ℕ) → ℤ
-  lack k = E k -ℤ pos P *ℤ at k .position
+  lack k = E k -ℤ pos P *ℤ position k
 
   abbrev lack-back : (k : ℕ) → ℤ
-  lack-back k = pos P *ℤ at k .position -ℤ E k
+  lack-back k = pos P *ℤ position k -ℤ E k
 
-  -- All other lines.
+  pub record HalfCount : Type 0 where
+    pub never-past : pos 0 <ℤ X → (k : ℕ) → k ≤ N → pos 0 ≤ℤ lack k
+    pub below-half : pos 0 <ℤ X → (k : ℕ) → k ≤ N → (pos 2 *ℤ lack k) <ℤ (pos unitsPerCount *ℤ pos P)
+    pub never-past-back : X <ℤ pos 0 → (k : ℕ) → k ≤ N → pos 0 ≤ℤ lack-back k
+    pub below-half-back : X <ℤ pos 0 → (k : ℕ) → k ≤ N → (pos 2 *ℤ lack-back k) <ℤ (pos unitsPerCount *ℤ pos P)
+
+-- All other lines.
+module _ (m : Move) (N P : ℕ) (E : ℕ → ℤ) (at : ℕ → Sample) where
   pub record Kept : Type 0 where
-    -- Sums from rest.
+    -- Sums from rest. That "for position begins at G times the start instead of 0" (document 02, 7).
     pub acceleration-rest : at 0 .acceleration ≡ pos 0
     pub velocity-rest : at 0 .velocity ≡ pos 0
-    pub position-rest : at 0 .position ≡ pos 0
+    pub position-rest : at 0 .position ≡ unitsOf (m .start)
     pub acceleration-sum : (k : ℕ) → k < N → at (k + 1) .acceleration ≡ at k .acceleration +ℤ at k .jerk
     pub velocity-sum : (k : ℕ) → k < N → at (k + 1) .velocity ≡ at k .velocity +ℤ at k .acceleration
     pub position-sum : (k : ℕ) → k < N → at (k + 1) .position ≡ at k .position +ℤ at k .velocity
@@ -51,16 +59,13 @@ module _ (m : Move) (N P : ℕ) (E : ℕ → ℤ) (at : ℕ → Sample) where
     -- Never turning back: for a positive X, and for a negative one.
     pub forward : pos 0 <ℤ m .displacement → (k : ℕ) → k ≤ N → pos 0 ≤ℤ at k .velocity
     pub backward : m .displacement <ℤ pos 0 → (k : ℕ) → k ≤ N → at k .velocity ≤ℤ pos 0
-    -- Half-count rule: for a positive X, and for a negative one.
-    pub never-past : pos 0 <ℤ m .displacement → (k : ℕ) → k ≤ N → pos 0 ≤ℤ lack k
-    pub below-half : pos 0 <ℤ m .displacement → (k : ℕ) → k ≤ N → (pos 2 *ℤ lack k) <ℤ (pos unitsPerCount *ℤ pos P)
-    pub never-past-back : m .displacement <ℤ pos 0 → (k : ℕ) → k ≤ N → pos 0 ≤ℤ lack-back k
-    pub below-half-back : m .displacement <ℤ pos 0 → (k : ℕ) → k ≤ N → (pos 2 *ℤ lack-back k) <ℤ (pos unitsPerCount *ℤ pos P)
-    -- The end.
+    -- "The half-count rule reads from the start" (document 02, 7).
+    pub half-count : HalfCount (m .displacement) N P E (λ k. at k .position -ℤ unitsOf (m .start))
+    -- The end: "start plus X, is then the count asked for".
     pub jerk-end : at N .jerk ≡ pos 0
     pub acceleration-end : at N .acceleration ≡ pos 0
     pub velocity-end : at N .velocity ≡ pos 0
-    pub count-end : at N .count ≡ m .displacement
+    pub count-end : at N .count ≡ m .start +ℤ m .displacement
 
 -- What the two orders share, for the N, P and E of a motion x of the move: `sample` is what the one-sample entry gives at each k, and
 -- `table` the position table.

@@ -9,4 +9,6 @@ pub mod Claims
 pub mod Demand3
 pub mod ReferenceClaims
 pub mod AxesClaims
+pub mod StartClaims
+pub mod EndClaims
 pub mod Inner

@@ -1,5 +1,5 @@
--- Document 01, "The profile": the five values of a sample, and what the one-sample entry gives; document 02, 2: the remainder; and 3: the
--- values in the third order.
+-- Document 01, "The profile": the five values of a sample, and what the one-sample entry gives; document 02, 2: the remainder; 3: the
+-- values in the third order; and 7: the start.
 use mathlib.Core.List.{List, [], _∷_, _++_}
 use mathlib.Core.Path.{_≡_}
 use Prim.Native.Nat.{ℕ, _*_, _≤_, _<_}
@@ -15,6 +15,7 @@ use Rattle.profile.specs.Profile.{sevenSegments, switchedIn, sum}
 use Rattle.profile.specs.Profile as profile
 use Rattle.motion.specs.declared.Sample.{Sample}
 
+-- The position is the distance from the start.
 pub record Values : Type 0 where
   pub snap : ℤ
   pub jerk : ℤ
@@ -61,11 +62,12 @@ module _ (m : Move) where
   unfoldable pub thirdExactPositionTimesP : (k : ℕ) → ℤ
   thirdExactPositionTimesP k = thirdValuesAt (m .displacement) (thirdIntervalsOf m) (distanceOf m) k .position
 
--- What the rules of one order say of a move: the planner's checks, N, P, the values at each sample, and E.
+-- What the rules of one order say of a move: the planner's checks, N, P, the start, the values at each sample, and E.
 pub record Motion : Type 0 where
   pub planChecks : List (Check ℕ)
   pub samples : ℕ
   pub product : ℕ
+  pub start : ℤ
   pub values : (k : ℕ) → Values
   pub exact : (k : ℕ) → ℤ
 
@@ -75,6 +77,7 @@ fourthOrder m =
       planChecks = checks m;
       samples = samplesOf m;
       product = P (intervalsOf m);
+      start = m .start;
       values = valuesOf m;
       exact = exactPositionTimesP m;
     }
@@ -85,6 +88,7 @@ thirdOrder m =
       planChecks = thirdChecks m;
       samples = thirdSamplesOf m;
       product = P₃ (thirdIntervalsOf m);
+      start = m .start;
       values = thirdValuesOf m;
       exact = thirdExactPositionTimesP m;
     }
@@ -94,7 +98,8 @@ abbrev pub unitsOf : ℤ → ℤ
 unitsOf c = pos unitsPerCount *ℤ c
 
 -- "its position to the nearest count, halves away from zero", and "the signed remainder, position minus G times the count", which "lies from
--- −2^39 to 2^39": these are the count and the remainder of the position x, and the only ones (`one-rounding`).
+-- −2^39 to 2^39": these are the count and the remainder of x, and the only ones (`one-rounding`). Request 7: "rounding is of the distance
+-- from" the start, "halves away from it", so x is that distance.
 pub record RoundsTo (x count remainder : ℤ) : Type 0 where
   pub position-is : x ≡ unitsOf count +ℤ remainder
   pub nearest : 2 * natAbs remainder ≤ unitsPerCount
@@ -105,16 +110,20 @@ pub record Rounding (x : ℤ) : Type 0 where
   pub remainder : ℤ
   pub rounded : RoundsTo x count remainder
 
--- "these five values and the count", and the remainder.
-abbrev pub sampleOf : (v : Values) → Rounding (v .position) → Sample
-sampleOf v r =
+-- "Every position gains G times the start": the position at this distance from it.
+abbrev pub fromStart : (start distance : ℤ) → ℤ
+fromStart start distance = unitsOf start +ℤ distance
+
+-- "these five values and the count", and the remainder. "Every position gains G times the start, every count the start".
+abbrev pub sampleOf : (start : ℤ) (v : Values) → Rounding (v .position) → Sample
+sampleOf start v r =
     record {
       snap = v .snap;
       jerk = v .jerk;
       acceleration = v .acceleration;
       velocity = v .velocity;
-      position = v .position;
-      count = r .count;
+      position = fromStart start (v .position);
+      count = start +ℤ r .count;
       remainder = r .remainder;
     }
 
@@ -125,7 +134,7 @@ module _ (x : Motion) (k : ℕ) where
   sampleChecks = x .planChecks ++ (check 9 (ltb (x .samples) k) ∷ [])
 
   unfoldable pub sampleWith : Rounding (x .values k .position) → Result ℕ Sample
-  sampleWith r = firstRefusal sampleChecks (given (sampleOf (x .values k) r))
+  sampleWith r = firstRefusal sampleChecks (given (sampleOf (x .start) (x .values k) r))
 
   -- What the one-sample entry promises of the outcome of its answer.
   pub record Samples (o : Result ℕ Sample) : Type 0 where

@@ -1,4 +1,4 @@
--- Document 01, "The profile" and "Force rows", and document 02, 4: the tables of positions, of reference rows and of force rows.
+-- Document 01, "The profile" and "Force rows", and document 02, 4 and 7: the tables of positions, of reference rows and of force rows.
 use mathlib.Core.Bool.{not}
 use mathlib.Core.List.{List, [], _∷_, _++_}
 use mathlib.Core.Path.{_≡_}
@@ -10,7 +10,7 @@ use lib.ListN.{length, drop}
 use Rattle.planner.specs.Result.{Result, refused, given, Check, check, firstRefusal}
 use Rattle.planner.specs.Outcome.{samplesOf}
 use Rattle.planner.specs.declared.Move.{Move}
-use Rattle.motion.specs.Sampling.{Values, valuesOf, Motion, fourthOrder}
+use Rattle.motion.specs.Sampling.{Values, valuesOf, fromStart, Motion, fourthOrder}
 use Rattle.motion.specs.ForceRows.Machine.{Machine, machineAsRead, machineInRange}
 use Rattle.motion.specs.ForceRows.Doubled.{Doubled, earlier, doubledValues}
 use Rattle.motion.specs.ForceRows.Force.{forceRow}
@@ -25,13 +25,14 @@ unfoldable pub tableOf : {A : Type 0} → Result ℕ ℕ → (rows old : List A)
 tableOf (refused number) rows old = old
 tableOf (given n) rows old = rows ++ drop (length rows) old
 
--- "Position before 0 is 0 and after N is its final value": a position is held outside 0 to N. Before 0 it is what `earlier` gives.
+-- "Position before 0 is 0 and after N is its final value": a position is held outside 0 to N. Before 0 it is what `earlier` gives: no
+-- distance from the start, so "Position before sample 0 is then the start's".
 unfoldable pub heldPosition : (N : ℕ) (values : ℕ → Values) → ℕ → ℤ
 heldPosition N values k = values (min k N) .position
 
--- "a reference row holds position[k] plus position[k−1], doubled units".
-unfoldable pub referenceRow : (N : ℕ) (values : ℕ → Values) → ℕ → ℤ
-referenceRow N values k = heldPosition N values k +ℤ earlier (heldPosition N values) 1 k
+-- "a reference row holds position[k] plus position[k−1], doubled units", and gains "twice G times the start".
+unfoldable pub referenceRow : (start : ℤ) (N : ℕ) (values : ℕ → Values) → ℕ → ℤ
+referenceRow start N values k = fromStart start (heldPosition N values k) +ℤ fromStart start (earlier (heldPosition N values) 1 k)
 
 -- Refusal 10: "a machine number outside its range or not finite".
 abbrev pub machineCheck : Machine Float → Check ℕ
@@ -53,11 +54,11 @@ module _ (x : Motion) where
 
   -- What the position table's entry promises: "places 0 to N receive positions", and 8 for a "table under N+1 places".
   unfoldable pub FillsPositions : (old : List ℤ) (o : Result ℕ ℕ) (new : List ℤ) → Type 0
-  FillsPositions = Fills [] (x .samples + 1) (λ k. x .values k .position)
+  FillsPositions = Fills [] (x .samples + 1) (λ k. fromStart (x .start) (x .values k .position))
 
   -- What the reference table's entry promises: rows "for k from 0 to N+1", and "Refusal 8 asks N+2 places for it".
   unfoldable pub FillsReference : (old : List ℤ) (o : Result ℕ ℕ) (new : List ℤ) → Type 0
-  FillsReference = Fills [] (x .samples + 2) (referenceRow (x .samples) (x .values))
+  FillsReference = Fills [] (x .samples + 2) (referenceRow (x .start) (x .samples) (x .values))
 
 -- The fourth order alone has force rows.
 module _ (m : Move) where

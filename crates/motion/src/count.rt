@@ -1,11 +1,24 @@
-// Rounding in whole numbers: division goes towards zero, so the fraction that it leaves decides, on either side of zero.
-ghost use Rattle.motion.specs.Sampling.{RoundsTo};
+// Counts and sub-count units. Rounding in whole numbers: division goes towards zero, so the fraction that it leaves decides, on either
+// side of zero.
+ghost use mathlib.Core.Path.{_≡_};
+ghost use Prim.Native.Nat.{_≤_};
+ghost use lib.IntN.{natAbs};
+ghost use Rattle.planner.specs.Outcome.{mostCounts};
+ghost use Rattle.motion.specs.Sampling.{unitsOf, RoundsTo};
 
 const UNITS_PER_COUNT: i64 = planner::UNITS_PER_COUNT as i64;
 
 const HALF_COUNT: i64 = UNITS_PER_COUNT / 2;
 
 const MINUS_HALF_COUNT: i64 = -UNITS_PER_COUNT / 2;
+
+// G times the start, at most 2^60 in size.
+pub(crate) fn units_of(start: i64) -> i64
+    requires { ⌜ natAbs start ≤ mostCounts ⌝ }
+    ensures { λ r. ⌜ r ≡ unitsOf start ⌝ }
+{
+    UNITS_PER_COUNT * start
+}
 
 // The nearest count, and the position less that count in sub-count units.
 pub(crate) struct Rounded {

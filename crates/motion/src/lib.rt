@@ -17,6 +17,7 @@ mod third;
 use crate::axes::axes_answer;
 use crate::axes::sampled_places;
 use crate::force::table::write_rows;
+use crate::one_sample::at_start;
 use crate::one_sample::sample_in_plan;
 use crate::one_sample::sample_in_third;
 use crate::planned::samples_in_plan;
@@ -39,7 +40,7 @@ ghost use Rattle.motion.specs.Tables.{FillsPositions, FillsReference, Fi
 ghost use Rattle.motion.specs.Answer.{number, machineOf, sampleOutcome, tableOutcome};
 
 // The values at a sample: snap, jerk, acceleration, velocity and position in sub-count units, the position to the nearest count, and the
-// remainder, which is the position less that count, in sub-count units too.
+// remainder, which is the position less that count, in sub-count units too. Halves go away from the start.
 #[repr(C)]
 pub struct Sample {
     pub snap: i64,
@@ -51,8 +52,8 @@ pub struct Sample {
     pub remainder: i64,
 }
 
-// The values of an axis at rest.
-const REST: Sample = Sample {
+// What stands in the places without an axis.
+const NO_SAMPLE: Sample = Sample {
     snap: 0,
     jerk: 0,
     acceleration: 0,
@@ -73,7 +74,7 @@ pub struct Machine {
     pub c: f64,
 }
 
-// Refusals 1 to 7 and 13 of the planner, 8, 9 and 10.
+// Refusals 1 to 7, 13 and 14 of the planner, 8, 9 and 10.
 pub enum MotionRefusal {
     Unplanned(Refusal),
     ShortTable,
@@ -92,7 +93,7 @@ pub enum AxesSampleAnswer {
     Refused { place: u64, refusal: MotionRefusal },
 }
 
-// An axis at rest has zeros, and so have the places after the last axis, and all at a refusal.
+// An axis at rest stays at its start. The places after the last axis have zeros, and so have all at a refusal.
 pub struct AxesSample {
     pub answer: AxesSampleAnswer,
     pub samples: [Sample; MOST_AXES],
@@ -115,7 +116,7 @@ pub fn sample_move(m: Move, k: u64) -> SampleAnswer
     if samples_in_plan(plan) < k {
         return SampleAnswer::Refused(MotionRefusal::PastEnd);
     }
-    SampleAnswer::Sampled(sample_in_plan(m.displacement, plan, k))
+    SampleAnswer::Sampled(sample_in_plan(m.displacement, m.start, plan, k))
 }
 
 // The values of the first `count` moves as the axes of a set at sample k, from 0 to the common N. The loop stands here, since the
@@ -126,15 +127,16 @@ pub fn sample_axes(count: u64, moves: [Move; MOST_AXES], k: u64) -> AxesSample
     let planned = planner::plan_axes(count, moves);
     let answer = axes_answer(planned.answer, k);
     let end = sampled_places(answer, count);
-    let mut samples = [REST; MOST_AXES];
+    let mut samples = [NO_SAMPLE; MOST_AXES];
     let mut i = 0;
     while i < end {
         let m = moves[i];
         if planner::magnitude(m.displacement) == 0 {
+            samples[i] = at_start(m.start);
             i += 1;
         } else {
             let plan = planned.plans[i];
-            samples[i] = sample_in_plan(m.displacement, plan, k);
+            samples[i] = sample_in_plan(m.displacement, m.start, plan, k);
             i += 1;
         }
     }
@@ -149,7 +151,7 @@ pub fn fill_positions(m: Move, table: &mut [i64]) -> TableAnswer
     let PlanAnswer::Planned(plan) = answer else {
         return TableAnswer::Refused(plan_refusal(answer));
     };
-    write_positions(table, m.displacement, plan)
+    write_positions(table, m.displacement, m.start, plan)
 }
 
 // Fills a table with the reference rows of a move, 0 to N+1, for the feedback loop: each is the position there plus the one before it.
@@ -160,7 +162,7 @@ pub fn fill_reference(m: Move, table: &mut [i64]) -> TableAnswer
     let PlanAnswer::Planned(plan) = answer else {
         return TableAnswer::Refused(plan_refusal(answer));
     };
-    write_reference(table, m.displacement, plan)
+    write_reference(table, m.displacement, m.start, plan)
 }
 
 // Fills a table with the force rows of a move and a machine at rows 0 to N+1, for the drive's feedforward.
@@ -185,7 +187,7 @@ pub fn sample_third(m: Move, k: u64) -> SampleAnswer
     if samples_in_third(plan) < k {
         return SampleAnswer::Refused(MotionRefusal::PastEnd);
     }
-    SampleAnswer::Sampled(sample_in_third(m.displacement, plan, k))
+    SampleAnswer::Sampled(sample_in_third(m.displacement, m.start, plan, k))
 }
 
 // Fills a table with the positions of a move in the third order at samples 0 to N.
@@ -196,7 +198,7 @@ pub fn fill_positions_third(m: Move, table: &mut [i64]) -> TableAnswer
     let ThirdAnswer::Planned(plan) = answer else {
         return TableAnswer::Refused(third_refusal(answer));
     };
-    write_third(table, m.displacement, plan)
+    write_third(table, m.displacement, m.start, plan)
 }
 
 // Fills a table with the reference rows of a move in the third order, 0 to N+1.
@@ -207,7 +209,7 @@ pub fn fill_reference_third(m: Move, table: &mut [i64]) -> TableAnswer
     let ThirdAnswer::Planned(plan) = answer else {
         return TableAnswer::Refused(third_refusal(answer));
     };
-    write_third_reference(table, m.displacement, plan)
+    write_third_reference(table, m.displacement, m.start, plan)
 }
 
 // The paper's number of a refusal.

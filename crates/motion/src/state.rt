@@ -1,6 +1,6 @@
 // A sample, with the four sums there, and the step to the next.
 ghost use mathlib.Core.Path.{_≡_};
-ghost use Rattle.motion.specs.Inner.Steps.{StepFits, stepped, rest, sumsIn, withJerk};
+ghost use Rattle.motion.specs.Inner.Steps.{StepFits, stepped, restAt, sumsIn, withJerk};
 
 pub(crate) struct State {
     pub sample: u64,
@@ -42,15 +42,15 @@ pub(crate) fn with_jerk(state: State, jerk: i64) -> State
     }
 }
 
-// Sample 0: everything is 0.
-pub(crate) fn at_rest() -> State
-    ensures { λ r. ⌜ r ≡ rest ⌝ }
+// Sample 0: at rest at this position.
+pub(crate) fn at_position(position: i64) -> State
+    ensures { λ r. ⌜ r ≡ restAt position ⌝ }
 {
     State {
         sample: 0,
         jerk: 0,
         acceleration: 0,
         velocity: 0,
-        position: 0,
+        position,
     }
 }

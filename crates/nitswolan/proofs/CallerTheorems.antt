@@ -4,7 +4,7 @@ use mathlib.Core.Path.{_≡_, refl, ap, _∙_}
 use Prim.Native.Nat.{ℕ, _+_, _≤_}
 use native.Mathlib.Nat.{le-refl, le-of-eq}
 use native.Mathlib.Omega.{arith}
-use lib.IntN.{ℤ}
+use lib.IntN.{ℤ, _+ℤ_}
 use lib.ListN.{length}
 use Rattle.planner.specs.Result.{Each, Result, given}
 use Rattle.planner.specs.declared.Move.{Move}
@@ -66,7 +66,7 @@ pub last-count :
     {sample : ℕ → SampleResult} {t : TableResult} {table : List ℤ}
     → (f : CallerFacts (x .samples) n Demand sample t table)
     → Demand3Of m x (f .outcome) table
-    → sample n .count ≡ m .displacement
+    → sample n .count ≡ m .start +ℤ m .displacement
 last-count {n = n} f d =
     ap (λ (y : SampleResult). y .count)
     (f .sample-fields n (le-refl n) ∙ ap sampleFields (d .answered n (le-of-eq (f .samples-are))))

@@ -2,6 +2,7 @@
 use mathlib.Core.List.{List}
 use mathlib.Core.Path.{_≡_}
 use Prim.Native.Nat.{ℕ}
+use lib.IntN.{pos}
 use Rattle.planner.specs.Intervals.{N}
 use Rattle.planner.specs.Result.{Result, refused, given}
 use Rattle.planner.specs.Outcome.{intervalsIn}
@@ -72,9 +73,9 @@ sampleFieldsOf refusal x =
       remainder = x .remainder;
     }
 
--- The zeros at a refusal are those of a sample at rest.
+-- The zeros at a refusal are those of a sample at rest at 0.
 abbrev pub sampleFields : Result ℕ Sample → SampleResult
-sampleFields (refused number) = sampleFieldsOf number restSample
+sampleFields (refused number) = sampleFieldsOf number (restSample (pos 0))
 sampleFields (given x) = sampleFieldsOf 0 x
 
 -- What the entries of a set promise of their answer and of the eight places beside it.

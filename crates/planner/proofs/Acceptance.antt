@@ -6,7 +6,7 @@ use Prim.Native.Nat.{ℕ}
 use borrow.Author.Tests.{le-ltb, ltb-false}
 use lib.Dec.{ltb}
 use Rattle.planner.specs.Result.{Each, given, Check, check}
-use Rattle.planner.specs.Outcome.{mostSamples, outOfRange, samplesOf, distanceOf, intervalsOf, planOf, checks, outcomeOf}
+use Rattle.planner.specs.Outcome.{mostSamples, outOfRange, spanCheck, samplesOf, distanceOf, intervalsOf, planOf, checks, outcomeOf}
 use Rattle.planner.specs.Claims.{Accepted, IsPlanned, AcceptanceClaim}
 use Rattle.planner.specs.Third.{thirdIntervalsOf, thirdSamplesOf, thirdPlanOf, thirdChecks, thirdOutcomeOf}
 use Rattle.planner.specs.ThirdClaims.{ThirdInRange, ThirdAccepted, ThirdAcceptanceClaim}
@@ -14,6 +14,7 @@ use Rattle.planner.specs.Inner.Undivided.{figureChecks}
 use Rattle.planner.specs.declared.Move.{Move}
 use Rattle.planner.proofs.EachLaws.{each-joined, each-parts}
 use Rattle.planner.proofs.RefusalLaws.{Passes, all-pass, given-passes, bound-in-range, bound-passes}
+use Rattle.planner.proofs.EndLaws.{ends-in-span, ends-pass}
 use Rattle.planner.proofs.FiguresChecks.{figures-in-range, figures-pass}
 
 module _ (m : Move) where
@@ -22,15 +23,15 @@ module _ (m : Move) where
   figures = figureChecks (m .displacement) (m .velocity) (m .acceleration) (m .jerk)
 
   abbrev last : List (Check ℕ)
-  last = check 6 (outOfRange (m .snap)) ∷ check 7 (ltb mostSamples (samplesOf m)) ∷ []
+  last = check 6 (outOfRange (m .snap)) ∷ spanCheck (m .displacement) (m .start) ∷ check 7 (ltb mostSamples (samplesOf m)) ∷ []
 
   abbrev third-last : List (Check ℕ)
-  third-last = check 7 (ltb mostSamples (thirdSamplesOf m)) ∷ []
+  third-last = spanCheck (m .displacement) (m .start) ∷ check 7 (ltb mostSamples (thirdSamplesOf m)) ∷ []
 
   pub passed-accepted : Each Passes (checks m) → Accepted m
   passed-accepted p =
       let parts = each-parts Passes figures last p in
-      let i = figures-in-range m (parts .0) in
+      let i = figures-in-range m (parts .0) (ends-in-span m (parts .1 .1 .0)) in
       record {
         in-range =
             record {
@@ -43,8 +44,9 @@ module _ (m : Move) where
                     jerk = i .jerk;
                     snap = bound-in-range _ (parts .1 .0);
                   };
+              ends = i .ends;
             };
-        short-enough = ltb-false mostSamples (samplesOf m) (parts .1 .1 .0);
+        short-enough = ltb-false mostSamples (samplesOf m) (parts .1 .1 .1 .0);
       }
 
   pub accepted-figures : Accepted m → ThirdInRange m
@@ -56,25 +58,28 @@ module _ (m : Move) where
         velocity = i .bounds .velocity;
         acceleration = i .bounds .acceleration;
         jerk = i .bounds .jerk;
+        ends = i .ends;
       }
 
   pub accepted-passes : Accepted m → Each Passes (checks m)
   accepted-passes h =
-      each-joined Passes figures last (figures-pass m (accepted-figures h))
-      (bound-passes _ (h .in-range .bounds .snap), (le-ltb mostSamples (samplesOf m) (h .short-enough), tt))
+      each-joined Passes figures last (figures-pass m (accepted-figures h)) (
+        bound-passes _ (h .in-range .bounds .snap),
+        (ends-pass m (h .in-range .ends), (le-ltb mostSamples (samplesOf m) (h .short-enough), tt)),
+      )
 
   pub third-passed : Each Passes (thirdChecks m) → ThirdAccepted m
   third-passed p =
       let parts = each-parts Passes figures third-last p in
       record {
-        in-range = figures-in-range m (parts .0);
-        short-enough = ltb-false mostSamples (thirdSamplesOf m) (parts .1 .0);
+        in-range = figures-in-range m (parts .0) (ends-in-span m (parts .1 .0));
+        short-enough = ltb-false mostSamples (thirdSamplesOf m) (parts .1 .1 .0);
       }
 
   pub third-passes : ThirdAccepted m → Each Passes (thirdChecks m)
   third-passes h =
       each-joined Passes figures third-last (figures-pass m (h .in-range))
-      (le-ltb mostSamples (thirdSamplesOf m) (h .short-enough), tt)
+      (ends-pass m (h .in-range .ends), (le-ltb mostSamples (thirdSamplesOf m) (h .short-enough), tt))
 
   -- the plan of the rule's own intervals
   pub accepted-outcome : Accepted m → outcomeOf m ≡ given (planOf (distanceOf m) (intervalsOf m))

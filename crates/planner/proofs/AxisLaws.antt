@@ -1,7 +1,7 @@
--- Laws of one axis: at rest its bounds alone are asked, and else its move.
+-- Laws of one axis: at rest its bounds and its start alone are asked, and else its move.
 use borrow.Author.Tests.{eq-eqb, ne-eqb, eqb-true, eqb-false}
 use mathlib.Core.Bool.{Bool, true, false, cond}
-use mathlib.Core.List.{List}
+use mathlib.Core.List.{List, [], _∷_, _++_}
 use mathlib.Core.Path.{_≡_, refl, sym, ap, ap₂, subst, _∙_}
 use Prim.Native.Nat.{ℕ, _≤_}
 use native.Mathlib.Nat.{pos-of-ne-zero}
@@ -9,14 +9,16 @@ use native.Mathlib.Omega.{arith}
 use lib.IntN.{natAbs}
 use Rattle.planner.specs.Intervals.{N}
 use Rattle.planner.specs.Result.{refused, given, Each, Check, firstRefusal}
-use Rattle.planner.specs.Outcome.{mostSamples, boundChecks, intervalsIn, samplesOf}
+use Rattle.planner.specs.Outcome.{mostSamples, boundChecks, endsOutside, spanCheck, intervalsIn, samplesOf}
 use Rattle.planner.specs.Axes.{restPlan, atRest, axisChecks, ownSamples}
 use Rattle.planner.specs.AxesClaims.{Moving, Resting, AcceptedAxis}
 use Rattle.planner.specs.Inner.Undivided.{undividedResult, boundsResult}
 use Rattle.planner.specs.Inner.AxisAnswers.{undividedAxis, axisResult}
 use Rattle.planner.specs.declared.Move.{Move}
 use Rattle.planner.specs.declared.Plan.{Plan}
-use Rattle.planner.proofs.RefusalLaws.{Passes, passed, passed-same, all-pass, same-refusal, bounds-in-range, bounds-pass}
+use Rattle.planner.proofs.EachLaws.{each-joined, each-parts}
+use Rattle.planner.proofs.RefusalLaws.{Passes, stop, skip, none-left, passed, passed-same, refused-on, passed-on, bounds-in-range, bounds-pass}
+use Rattle.planner.proofs.EndLaws.{ends-in-span, ends-pass}
 use Rattle.planner.proofs.Acceptance.{passed-accepted, accepted-passes}
 
 -- one of two, by a test
@@ -36,9 +38,12 @@ both P true h l = h
 both P false h l = l
 
 module _ (m : Move) where
-  -- refusals 3 to 6 of the move
+  -- refusals 3 to 6 of the move, and 14
   abbrev ownBounds : List (Check ℕ)
   ownBounds = boundChecks (m .velocity) (m .acceleration) (m .jerk) (m .snap)
+
+  abbrev ownSpan : List (Check ℕ)
+  ownSpan = spanCheck (m .displacement) (m .start) ∷ []
 
   pub by-rest : {P : Type 0} → (atRest m ≡ true → P) → (atRest m ≡ false → P) → P
   by-rest = either (atRest m)
@@ -57,17 +62,21 @@ module _ (m : Move) where
   passed-axis p =
       record {
         moving = λ h. passed-accepted m (subst (Each Passes) (chosen _ _ (moving-rest h)) p);
-        resting = λ h. bounds-in-range (subst (Each Passes) (chosen _ _ (eq-eqb _ _ h)) p);
+        resting = λ h.
+            let parts = each-parts Passes ownBounds ownSpan (subst (Each Passes) (chosen _ _ (eq-eqb _ _ h)) p) in
+            (bounds-in-range (parts .0), ends-in-span m (parts .1 .0));
       }
 
   pub axis-passes : AcceptedAxis m → Each Passes (axisChecks m)
   axis-passes h =
       by-rest
-      (λ q. subst (Each Passes) (sym (chosen _ _ q)) (bounds-pass (h .resting (rest-resting q))))
+      (λ q.
+      let r = h .resting (rest-resting q) in
+      subst (Each Passes) (sym (chosen _ _ q)) (each-joined Passes ownBounds ownSpan (bounds-pass (r .0)) (ends-pass m (r .1), tt)))
       (λ q. subst (Each Passes) (sym (chosen _ _ q)) (accepted-passes m (h .moving (rest-moving q))))
 
   -- what `undivided_axis` answers
-  resting-is : atRest m ≡ true → axisResult m ≡ firstRefusal (ownBounds) (given restPlan)
+  resting-is : atRest m ≡ true → axisResult m ≡ firstRefusal (ownBounds ++ ownSpan) (given restPlan)
   unfolding axisResult
   resting-is h = ap₂ (λ xs t. firstRefusal xs (given t)) (chosen _ _ h) (chosen _ _ h)
 
@@ -77,11 +86,18 @@ module _ (m : Move) where
 
   pub resting-refused : (n : ℕ) → atRest m ≡ true → refused n ≡ boundsResult ownBounds → refused n ≡ axisResult m
   unfolding boundsResult
-  resting-refused n h q = sym (resting-is h ∙ same-refusal (ownBounds) tt _ n (sym q))
+  resting-refused n h q = refused-on ownBounds ownSpan tt _ n q ∙ sym (resting-is h)
 
-  pub resting-found : atRest m ≡ true → given tt ≡ boundsResult ownBounds → given restPlan ≡ axisResult m
-  unfolding boundsResult
-  resting-found h q = sym (resting-is h ∙ all-pass (ownBounds) _ (passed (ownBounds) _ _ (sym q)))
+  module _ (h : atRest m ≡ true) (q : given tt ≡ boundsResult ownBounds) where
+    span-left : firstRefusal ownSpan (given restPlan) ≡ axisResult m
+    unfolding boundsResult
+    span-left = passed-on ownBounds ownSpan tt _ tt q ∙ sym (resting-is h)
+
+    pub resting-outside : endsOutside (m .displacement) (m .start) ≡ true → refused 14 ≡ axisResult m
+    resting-outside t = stop t .is ∙ span-left
+
+    pub resting-found : endsOutside (m .displacement) (m .start) ≡ false → given restPlan ≡ axisResult m
+    resting-found t = skip t none-left .is ∙ span-left
 
   pub own-is : N (intervalsIn (undividedAxis m)) ≡ ownSamples m
   unfolding samplesOf

@@ -10,6 +10,7 @@ use lib.IntN.{ℤ, natAbs}
 use Rattle.planner.specs.Quantities.{distance, unitsPerCount}
 use Rattle.planner.specs.Result.{Each, Result, refused, given, Check, firstRefusal}
 use Rattle.planner.specs.Outcome.{mostCounts, boundChecksToJerk, distanceOf}
+use Rattle.planner.specs.Claims.{EndsInSpan}
 use Rattle.planner.specs.ThirdClaims.{ThirdInRange}
 use Rattle.planner.specs.Inner.Capped.{FiguresToJerk}
 use Rattle.planner.specs.Inner.Undivided.{figureChecks, figuresResult, boundsResult}
@@ -30,8 +31,8 @@ module _ (m : Move) where
   abbrev pub figuresOf : Result ℕ ℕ
   figuresOf = figuresResult (m .displacement) (m .velocity) (m .acceleration) (m .jerk)
 
-  pub figures-in-range : Each Passes figureChecksOf → ThirdInRange m
-  figures-in-range p =
+  pub figures-in-range : Each Passes figureChecksOf → EndsInSpan m → ThirdInRange m
+  figures-in-range p ends =
       let bounds = p .1 .1 in
       record {
         moves = pos-of-ne-zero (eqb-false size 0 (p .0));
@@ -39,6 +40,7 @@ module _ (m : Move) where
         velocity = bound-in-range _ (bounds .0);
         acceleration = bound-in-range _ (bounds .1 .0);
         jerk = bound-in-range _ (bounds .1 .1 .0);
+        ends = ends;
       }
 
   pub figures-pass : ThirdInRange m → Each Passes figureChecksOf
@@ -95,10 +97,11 @@ module _ (m : Move) where
     pub figures : FiguresToJerk W (m .velocity) (m .acceleration) (m .jerk)
     unfolding figuresResult
     figures =
-        let i = figures-in-range (passed figureChecksOf _ _ (sym h)) in
+        let p = passed figureChecksOf _ _ (sym h) in
+        let near = near-distance (m .displacement) (ltb-false mostCounts size (p .1 .0)) in
         record {
-          distance = subst (λ (W : ℕ). W ≤ 2 ^ 60) (sym measured) (near-distance (m .displacement) (i .near));
-          velocity = i .velocity;
-          acceleration = i .acceleration;
-          jerk = i .jerk;
+          distance = subst (λ (W : ℕ). W ≤ 2 ^ 60) (sym measured) near;
+          velocity = bound-in-range _ (p .1 .1 .0);
+          acceleration = bound-in-range _ (p .1 .1 .1 .0);
+          jerk = bound-in-range _ (p .1 .1 .1 .1 .0);
         }

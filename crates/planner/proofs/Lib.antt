@@ -1,4 +1,4 @@
--- Laws that the proofs of the code cite: the search, its form, the cap, the sign, the checks, and lists of a property or with padding.
+-- Laws that the proofs of the code cite: the search, its form, the cap, signs and sizes, the checks, and lists of a property or padded.
 pub mod Clash
 pub mod ResultLaws
 pub mod LeastLaws
@@ -8,11 +8,13 @@ pub mod ReachLaws
 pub mod Forms
 pub mod CapLaws
 pub mod Sign
+pub mod IntegerSizes
 pub mod DirectionLaws
 pub mod RefusalLaws
 pub mod OrderLaws
 pub mod RuleRefusals
 pub mod EachLaws
+pub mod EndLaws
 pub mod PaddedLaws
 -- What the rules come to: laws of the intervals, and the theorems.
 pub mod CarriedLaws
@@ -46,3 +48,7 @@ pub mod OneAxesAnswer
 pub mod CountedAlone
 pub mod CommonDuration
 pub mod SetOfOne
+-- The start.
+pub mod StartAdds
+pub mod NeverFourteen
+pub mod OnePlan

@@ -1,7 +1,8 @@
--- A move and the same move the other way: the rules look at the size of X alone.
+-- A move and the same move the other way: the rules look at the sizes of X, of the start and of the end alone.
 use mathlib.Core.Logic.{_↔_}
-use mathlib.Core.Path.{_≡_, refl, sym, subst}
+use mathlib.Core.Path.{_≡_, refl, sym, ap, subst, _∙_}
 use Prim.Native.Nat.{ℕ}
+use lib.IntN.{natAbs, negℤ, _+ℤ_, negℤ-+ℤ}
 use Rattle.planner.specs.Quantities.{distance}
 use Rattle.planner.specs.Outcome.{intervalsOf, samplesOf, outcomeOf}
 use Rattle.planner.specs.Result.{Result}
@@ -12,14 +13,17 @@ use Rattle.planner.specs.declared.Move.{Move}
 use Rattle.planner.proofs.Sign.{size-negated}
 use Rattle.planner.proofs.Acceptance.{rule-accepted, third-rule-accepted}
 
+mirrored-end : (m : Move) → natAbs (negℤ (m .start) +ℤ negℤ (m .displacement)) ≡ natAbs (m .start +ℤ m .displacement)
+mirrored-end m = ap natAbs (sym (negℤ-+ℤ (m .start) (m .displacement))) ∙ size-negated (m .start +ℤ m .displacement)
+
 -- the plan or the refusal is the same
 pub same-outcome : (m : Move) → outcomeOf (mirrored m) ≡ outcomeOf m
 unfolding outcomeOf samplesOf intervalsOf distance
-same-outcome m = rw (size-negated (m .displacement)) refl
+same-outcome m = rw (size-negated (m .displacement), size-negated (m .start), mirrored-end m) refl
 
 third-same-outcome : (m : Move) → thirdOutcomeOf (mirrored m) ≡ thirdOutcomeOf m
 unfolding thirdOutcomeOf thirdSamplesOf thirdIntervalsOf distance
-third-same-outcome m = rw (size-negated (m .displacement)) refl
+third-same-outcome m = rw (size-negated (m .displacement), size-negated (m .start), mirrored-end m) refl
 
 -- what is accepted by the outcome is accepted either way
 either-way :

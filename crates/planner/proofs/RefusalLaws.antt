@@ -91,7 +91,7 @@ given-passes {A} xs x q = (λ p. go _ q p, λ p. subst IsPlanned (sym (q ∙ all
     go (given y) q h = passed xs x y (sym q)
 
 -- neither 0 nor above the most
-or-false : (x y : Bool) → (x || y) ≡ false → (x ≡ false) × (y ≡ false)
+pub or-false : (x y : Bool) → (x || y) ≡ false → (x ≡ false) × (y ≡ false)
 or-false true y h = absurd (true≢false h)
 or-false false y h = (refl, h)
 
@@ -126,9 +126,14 @@ bounds-pass h = (
 )
 
 -- what `undivided_in_range` answers
-pub snap-refused : (W V₀ A₀ J₀ S₀ : ℕ) → outOfRange S₀ ≡ true → refused 6 ≡ undividedWithin W V₀ A₀ J₀ S₀
+pub snap-refused : (W V₀ A₀ J₀ S₀ : ℕ) (outside : Bool) → outOfRange S₀ ≡ true → refused 6 ≡ undividedWithin W V₀ A₀ J₀ S₀ outside
 unfolding undividedWithin
-snap-refused W V₀ A₀ J₀ S₀ h = stop h .is
+snap-refused W V₀ A₀ J₀ S₀ outside h = stop h .is
+
+pub ends-refused :
+    (W V₀ A₀ J₀ S₀ : ℕ) (outside : Bool) → outOfRange S₀ ≡ false → outside ≡ true → refused 14 ≡ undividedWithin W V₀ A₀ J₀ S₀ outside
+unfolding undividedWithin
+ends-refused W V₀ A₀ J₀ S₀ outside slow h = skip slow (stop h) .is
 
 pub with-snap : {W V₀ A₀ J₀ S₀ : ℕ} → FiguresToJerk W V₀ A₀ J₀ → outOfRange S₀ ≡ false → Figures W V₀ A₀ J₀ S₀
 with-snap h slow =
@@ -137,16 +142,19 @@ with-snap h slow =
       bounds = record { velocity = h .velocity; acceleration = h .acceleration; jerk = h .jerk; snap = bound-in-range _ slow };
     }
 
-module _ (W V₀ A₀ J₀ S₀ : ℕ) (slow : outOfRange S₀ ≡ false) (t : Intervals) (g : IntervalsAgree 4097 W V₀ A₀ J₀ S₀ t) where
-  abbrev rule : Intervals
-  rule = intervalsBy W V₀ A₀ J₀ S₀
+module _
+    (W V₀ A₀ J₀ S₀ : ℕ) (outside : Bool) (slow : outOfRange S₀ ≡ false) (inside : outside ≡ false)
+    (t : Intervals) (g : IntervalsAgree 4097 W V₀ A₀ J₀ S₀ t)
+  where
+    abbrev rule : Intervals
+    rule = intervalsBy W V₀ A₀ J₀ S₀
 
-  pub too-many-samples : mostSamples < N t → refused 7 ≡ undividedWithin W V₀ A₀ J₀ S₀
-  unfolding undividedWithin
-  too-many-samples h = skip slow (stop (lt-ltb mostSamples (N rule) (omega (arith, g .samples)))) .is
+    pub too-many-samples : mostSamples < N t → refused 7 ≡ undividedWithin W V₀ A₀ J₀ S₀ outside
+    unfolding undividedWithin
+    too-many-samples h = skip slow (skip inside (stop (lt-ltb mostSamples (N rule) (omega (arith, g .samples))))) .is
 
-  pub found-within : N t ≤ mostSamples → given (undivided W t) ≡ undividedWithin W V₀ A₀ J₀ S₀
-  unfolding undividedWithin
-  found-within h =
-      ap (λ (t : Intervals). given (undivided W t)) (g .same (omega arith))
-      ∙ skip slow (skip (le-ltb mostSamples (N rule) (omega (arith, g .samples))) none-left) .is
+    pub found-within : N t ≤ mostSamples → given (undivided W t) ≡ undividedWithin W V₀ A₀ J₀ S₀ outside
+    unfolding undividedWithin
+    found-within h =
+        ap (λ (t : Intervals). given (undivided W t)) (g .same (omega arith))
+        ∙ skip slow (skip inside (skip (le-ltb mostSamples (N rule) (omega (arith, g .samples))) none-left)) .is

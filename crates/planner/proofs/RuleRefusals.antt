@@ -1,4 +1,4 @@
--- The rule refuses with no number above 7, and with none below 1; and in the third order not with 6.
+-- The rule refuses with none but 1 to 7 and 14; and in the third order not with 6.
 use mathlib.Core.Bool.{true, false}
 use mathlib.Core.List.{List, [], _∷_}
 use mathlib.Core.Path.{_≡_, sym, subst}
@@ -27,9 +27,9 @@ refusal-has P (check refusal false ∷ xs) x h n e = refusal-has P xs x (h .1) n
 abbrev pub Between : (least most n : ℕ) → Type 0
 Between least most n = (least ≤ n) × (n ≤ most)
 
-pub refused-most : (m : Move) (n : ℕ) → outcomeOf m ≡ refused n → Between 1 7 n
+pub refused-most : (m : Move) (n : ℕ) → outcomeOf m ≡ refused n → Between 1 14 n
 unfolding outcomeOf
-refused-most m = refusal-has (Between 1 7) (checks m) (planOf (distanceOf m) (intervalsOf m)) (omega arith)
+refused-most m = refusal-has (Between 1 14) (checks m) (planOf (distanceOf m) (intervalsOf m)) (omega arith)
 
 -- a number from 1 up other than 6
 abbrev pub OtherThanSix : ℕ → Type 0

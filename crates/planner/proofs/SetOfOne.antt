@@ -2,21 +2,20 @@
 use mathlib.Core.Bool.{true, false}
 use mathlib.Core.List.{List, [], _∷_, _++_}
 use mathlib.Core.Path.{_≡_, refl, sym, ap, subst, _∙_}
-use Prim.Native.Nat.{ℕ, _+_, _-_}
+use Prim.Native.Nat.{ℕ, _+_, _-_, _≤_}
 use native.Mathlib.Omega.{arith}
 use borrow.Author.Tests.{ne-eqb}
 use lib.Dec.{ltb}
-use lib.IntN.{natAbs}
 use Rattle.planner.specs.Intervals.{Intervals, N}
 use Rattle.planner.specs.Result.{Result, refused, given, Check, check, firstRefusal, padded}
-use Rattle.planner.specs.Outcome.{mostCounts, mostSamples, distanceOf, intervalsOf, samplesOf, boundChecks, planOf, outcomeOf, intervalsIn, Plans}
+use Rattle.planner.specs.Outcome.{mostSamples, outOfSpan, spanCheck, distanceOf, intervalsOf, samplesOf, boundChecks, planOf, outcomeOf, intervalsIn, Plans}
 use Rattle.planner.specs.Claims.{Accepted}
 use Rattle.planner.specs.Axes.{mostAxes, raised, restPlan, atRest, axisChecks, axisPlan, allAtRest, commonSamples, checksFrom, PlansAxes}
 use Rattle.planner.specs.AxesClaims.{AcceptedAxis, placeOfOne, outcomeOfOne, placesOfOne, SetOfOneClaim}
 use Rattle.planner.specs.declared.Move.{Move}
 use Rattle.planner.specs.declared.Plan.{Plan}
 use Rattle.planner.proofs.RefusalLaws.{stop, skip}
-use Rattle.planner.proofs.RuleRefusals.{Between, refusal-has}
+use Rattle.planner.proofs.RuleRefusals.{refusal-has}
 use Rattle.planner.proofs.Acceptance.{acceptance, accepted-outcome}
 use Rattle.planner.proofs.AxisLaws.{chosen, by-rest, rest-moving}
 use Rattle.planner.proofs.AxesLaws.{placed-refused}
@@ -31,7 +30,11 @@ raised-own t =
     let same : t .e + (N t - N t) ≡ t .e = omega arith in
     ap {B = Intervals} (λ (e : ℕ). record { a = t .a; b = t .b; c = t .c; e = e }) same
 
-place : (n : ℕ) → Between 2 7 n → placeOfOne n ≡ 1
+-- a number from 2 up other than 9
+abbrev OtherThanNine : ℕ → Type 0
+OtherThanNine n = (2 ≤ n) × (1 ≤ n - 9 + (9 - n))
+
+place : (n : ℕ) → OtherThanNine n → placeOfOne n ≡ 1
 place n h = rw (ne-eqb n 1 (λ e. omega (arith, h .0, e)), ne-eqb n 9 (λ e. omega (arith, h .1, e))) refl
 
 -- what the move and its axis come to
@@ -48,11 +51,11 @@ module _ (m : Move) where
     unfolding outcomeOf
     same-checks = ap (λ (xs : List (Check ℕ)). firstRefusal xs (given plan)) (chosen _ _ q)
 
-    of-an-axis : (n : ℕ) → outcomeOf m ≡ refused n → Between 2 7 n
+    of-an-axis : (n : ℕ) → outcomeOf m ≡ refused n → OtherThanNine n
     unfolding outcomeOf
     of-an-axis n h =
-        refusal-has (Between 2 7) (check 2 (ltb mostCounts (natAbs (m .displacement))) ∷ boundChecks (m .velocity) (m .acceleration)
-        (m .jerk) (m .snap) ++ (check 7 (ltb mostSamples (samplesOf m)) ∷ []))
+        refusal-has OtherThanNine (check 2 (outOfSpan (m .displacement)) ∷ boundChecks (m .velocity) (m .acceleration)
+        (m .jerk) (m .snap) ++ (spanCheck (m .displacement) (m .start) ∷ check 7 (ltb mostSamples (samplesOf m)) ∷ []))
         plan (omega arith) n (skip q (record { is = refl }) .is ∙ h)
 
     not-raised : plan ≡ axisPlan m (N (intervalsOf m))

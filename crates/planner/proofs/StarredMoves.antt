@@ -53,7 +53,7 @@ starred-accepted =
 
 -- the moves of the first two rows, of 8 and 12 samples
 abbrev pub firstStarred : Move
-firstStarred = record { displacement = pos 8; velocity = 2 * G; acceleration = G; jerk = G; snap = G }
+firstStarred = record { displacement = pos 8; velocity = 2 * G; acceleration = G; jerk = G; snap = G; start = pos 0 }
 
 pub first-accepted : Accepted firstStarred
 unfolding starred
@@ -65,7 +65,7 @@ unfolding thirdSamplesOf thirdIntervalsOf third-b c e A₁ V₁ interval-c inter
 first-third-accepted = record { in-range = accepted-figures firstStarred first-accepted; short-enough = omega arith }
 
 abbrev pub secondStarred : Move
-secondStarred = record { displacement = pos 8; velocity = G; acceleration = G; jerk = G; snap = G }
+secondStarred = record { displacement = pos 8; velocity = G; acceleration = G; jerk = G; snap = G; start = pos 0 }
 
 pub second-accepted : Accepted secondStarred
 unfolding starred

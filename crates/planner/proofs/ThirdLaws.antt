@@ -1,5 +1,6 @@
 -- Laws of the intervals of a third-order plan: b by the base's rule, their order, their product, the bounds that the jerk keeps; and what
 -- `third_in_range` answers.
+use mathlib.Core.Bool.{Bool, true, false}
 use mathlib.Core.Path.{_≡_, sym, ap, ap₂, _∙_}
 use Prim.Native.Nat.{ℕ, _+_, _*_, _^_, _≤_, _<_, min}
 use native.Mathlib.Nat.{le-trans, le-of-eq, mul-assoc, mul-pos, mul-le-mul, mul-le-mul-right, min-le-left, div-mul-le-self}
@@ -91,8 +92,13 @@ module _ {t : ThirdIntervals} (o : ThirdOrdered t) where
       let product : u * (u * t .e) ≤ 2048 * 2 ^ 22 = mul-le-mul half ends in
       omega (arith, squares, product, mul-assoc 4 (t .b * t .c) (t .e), mul-assoc u u (t .e))
 
--- the numbers that the searches found
-module _ (W V₀ A₀ J₀ : ℕ) (t : Intervals) (g : LaterAgree 4097 W V₀ A₀ J₀ 0 t) where
+-- what `third_in_range` answers: refusal 14
+pub third-ends-refused : (W V₀ A₀ J₀ : ℕ) (outside : Bool) → outside ≡ true → refused 14 ≡ thirdWithin W V₀ A₀ J₀ outside
+unfolding thirdWithin
+third-ends-refused W V₀ A₀ J₀ outside h = stop h .is
+
+-- or by the numbers that the searches found
+module _ (W V₀ A₀ J₀ : ℕ) (outside : Bool) (inside : outside ≡ false) (t : Intervals) (g : LaterAgree 4097 W V₀ A₀ J₀ 0 t) where
   abbrev three : Intervals → ThirdIntervals
   three t = record { b = t .b; c = t .c; e = t .e }
 
@@ -102,12 +108,12 @@ module _ (W V₀ A₀ J₀ : ℕ) (t : Intervals) (g : LaterAgree 4097 W V₀ A�
   same-samples : min 4097 (N₃ (three t)) ≡ min 4097 (N₃ (thirdIntervalsBy W V₀ A₀ J₀))
   same-samples = omega (arith, g .samples, g .first, ap N₃ three-are)
 
-  pub third-too-many : mostSamples < N₃ (three t) → refused 7 ≡ thirdWithin W V₀ A₀ J₀
+  pub third-too-many : mostSamples < N₃ (three t) → refused 7 ≡ thirdWithin W V₀ A₀ J₀ outside
   unfolding thirdWithin
-  third-too-many h = stop (lt-ltb mostSamples (N₃ (thirdIntervalsBy W V₀ A₀ J₀)) (omega (arith, same-samples))) .is
+  third-too-many h = skip inside (stop (lt-ltb mostSamples (N₃ (thirdIntervalsBy W V₀ A₀ J₀)) (omega (arith, same-samples)))) .is
 
-  pub third-found : N₃ (three t) ≤ mostSamples → given (thirdPlanOf W (three t)) ≡ thirdWithin W V₀ A₀ J₀
+  pub third-found : N₃ (three t) ≤ mostSamples → given (thirdPlanOf W (three t)) ≡ thirdWithin W V₀ A₀ J₀ outside
   unfolding thirdWithin
   third-found h =
       ap (λ (t : ThirdIntervals). given (thirdPlanOf W t)) (ap three (g .same (omega (arith, g .first))) ∙ three-are)
-      ∙ skip (le-ltb mostSamples (N₃ (thirdIntervalsBy W V₀ A₀ J₀)) (omega (arith, same-samples))) none-left .is
+      ∙ skip inside (skip (le-ltb mostSamples (N₃ (thirdIntervalsBy W V₀ A₀ J₀)) (omega (arith, same-samples))) none-left) .is

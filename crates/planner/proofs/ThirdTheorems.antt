@@ -1,12 +1,13 @@
 -- Third-order plans: the claims of specs/ThirdClaims.antt, and from "planned" to all that holds of a plan.
-use mathlib.Core.List.{[], _∷_}
+use mathlib.Core.List.{List, [], _∷_}
 use mathlib.Core.Path.{_≡_, refl, sym, ap, subst, _∙_}
 use Prim.Native.Nat.{ℕ}
 use native.Mathlib.Nat.{le-refl}
 use native.Mathlib.Omega.{arith}
 use lib.Dec.{ltb}
-use Rattle.planner.specs.Result.{Result, refused, given, check}
-use Rattle.planner.specs.Outcome.{mostSamples, distanceOf, number}
+use Rattle.planner.specs.Result.{Result, refused, given, Check, check}
+use Rattle.planner.specs.Outcome.{mostSamples, endsOutside, spanCheck, distanceOf, number}
+use Rattle.planner.specs.Order.{rank}
 use Rattle.planner.specs.Third.{thirdIntervalsOf, thirdSamplesOf, thirdPlanOf, thirdOutcomeOf, PlansThird, thirdOutcome}
 use Rattle.planner.specs.ThirdClaims.{ThirdAccepted, OneThirdAnswerClaim, ThirdPlanOrderClaim, SnapUnreadClaim, ThirdIntervalClaim}
 use Rattle.planner.specs.Inner.Capped.{FiguresToJerk}
@@ -33,6 +34,7 @@ pub one-third-answer : OneThirdAnswerClaim
 one-third-answer m x y h l = third-injective x y (h .outcome-is ∙ sym (l .outcome-is))
 
 pub third-plan-order : ThirdPlanOrderClaim
+unfolding rank
 third-plan-order m = (refl, omega arith)
 
 pub snap-unread : SnapUnreadClaim
@@ -83,16 +85,20 @@ module _ {m : Move} where
 
 -- what `plan_third` answers
 module _ (m : Move) where
+  abbrev last : List (Check ℕ)
+  last = spanCheck (m .displacement) (m .start) ∷ check 7 (ltb mostSamples (thirdSamplesOf m)) ∷ []
+
   pub third-figures-refused : (n : ℕ) → refused n ≡ figuresOf m → refused n ≡ thirdOutcomeOf m
   unfolding thirdOutcomeOf
-  third-figures-refused n h = figures-refused m (check 7 (ltb mostSamples (thirdSamplesOf m)) ∷ []) _ n h
+  third-figures-refused n h = figures-refused m last _ n h
 
   pub third-figures-given :
       {W : ℕ} {o : Result ℕ ThirdPlan}
       → given W ≡ figuresOf m
-      → o ≡ thirdWithin W (m .velocity) (m .acceleration) (m .jerk)
+      → o ≡ thirdWithin W (m .velocity) (m .acceleration) (m .jerk) (endsOutside (m .displacement) (m .start))
       → o ≡ thirdOutcomeOf m
   unfolding thirdWithin thirdOutcomeOf thirdSamplesOf thirdIntervalsOf
   third-figures-given h q =
-      q ∙ ap (λ (W : ℕ). thirdWithin W (m .velocity) (m .acceleration) (m .jerk)) (measured m h)
-      ∙ figures-passed m (check 7 (ltb mostSamples (thirdSamplesOf m)) ∷ []) _ h
+      q
+      ∙ ap (λ (W : ℕ). thirdWithin W (m .velocity) (m .acceleration) (m .jerk) (endsOutside (m .displacement) (m .start))) (measured m h)
+      ∙ figures-passed m last _ h

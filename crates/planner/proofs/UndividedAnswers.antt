@@ -1,10 +1,11 @@
 -- What follows where a plan was found but for its D, and where it was refused.
+use mathlib.Core.Bool.{Bool}
 use mathlib.Core.List.{List, [], _∷_}
 use mathlib.Core.Path.{_≡_, sym, ap, subst, _∙_}
 use Prim.Native.Nat.{ℕ}
 use lib.Dec.{ltb}
 use Rattle.planner.specs.Result.{Result, refused, given, Check, check}
-use Rattle.planner.specs.Outcome.{mostSamples, outOfRange, checks, distanceOf, intervalsOf, intervalsIn, samplesOf, planOf, outcomeOf}
+use Rattle.planner.specs.Outcome.{mostSamples, outOfRange, endsOutside, spanCheck, checks, distanceOf, intervalsOf, intervalsIn, samplesOf, planOf, outcomeOf}
 use Rattle.planner.specs.Claims.{Accepted}
 use Rattle.planner.specs.Inner.Undivided.{undivided, undividedResult, undividedWithin, Divisible}
 use Rattle.planner.specs.declared.Move.{Move}
@@ -15,9 +16,12 @@ use Rattle.planner.proofs.Acceptance.{passed-accepted, accepted-outcome
 use Rattle.planner.proofs.PlannedFacts.{rule-ordered}
 
 module _ (m : Move) where
-  -- what `undivided_plan` answers: after the figures that both orders read, refusals 6 and 7 are left
+  -- what `undivided_plan` answers: after the figures that both orders read, refusals 6, 14 and 7 are left
   abbrev last : List (Check ℕ)
-  last = check 6 (outOfRange (m .snap)) ∷ check 7 (ltb mostSamples (samplesOf m)) ∷ []
+  last = check 6 (outOfRange (m .snap)) ∷ spanCheck (m .displacement) (m .start) ∷ check 7 (ltb mostSamples (samplesOf m)) ∷ []
+
+  abbrev outside : Bool
+  outside = endsOutside (m .displacement) (m .start)
 
   pub undivided-refused : (n : ℕ) → refused n ≡ figuresOf m → refused n ≡ undividedResult m
   unfolding undividedResult
@@ -26,11 +30,11 @@ module _ (m : Move) where
   pub undivided-given :
       {W : ℕ} {o : Result ℕ Plan}
       → given W ≡ figuresOf m
-      → o ≡ undividedWithin W (m .velocity) (m .acceleration) (m .jerk) (m .snap)
+      → o ≡ undividedWithin W (m .velocity) (m .acceleration) (m .jerk) (m .snap) outside
       → o ≡ undividedResult m
   unfolding undividedWithin undividedResult intervalsOf samplesOf
   undivided-given h q =
-      q ∙ ap (λ (W : ℕ). undividedWithin W (m .velocity) (m .acceleration) (m .jerk) (m .snap)) (measured m h)
+      q ∙ ap (λ (W : ℕ). undividedWithin W (m .velocity) (m .acceleration) (m .jerk) (m .snap) outside) (measured m h)
       ∙ figures-passed m last _ h
 
   module _ {x : Plan} (h : given x ≡ undividedResult m) where

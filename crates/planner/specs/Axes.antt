@@ -8,7 +8,7 @@ use lib.IntN.{natAbs}
 use lib.ListN.{take, replicate}
 use Rattle.planner.specs.Intervals.{Intervals, N}
 use Rattle.planner.specs.Result.{Result, refused, given, Check, check, firstRefusal, padded}
-use Rattle.planner.specs.Outcome.{distanceOf, intervalsOf, samplesOf, boundChecks, checks, planOf, number}
+use Rattle.planner.specs.Outcome.{distanceOf, intervalsOf, samplesOf, boundChecks, spanCheck, checks, planOf, number}
 use Rattle.planner.specs.declared.Move.{Move}
 use Rattle.planner.specs.declared.Plan.{Plan}
 use Rattle.planner.specs.declared.AxesAnswer.{AxesAnswer}
@@ -31,9 +31,13 @@ module _ (m : Move) where
   abbrev pub atRest : Bool
   atRest = eqb (natAbs (m .displacement)) 0
 
-  -- "though its bounds must be in range": refusals 3 to 6. A moving axis has those of its move, of which 1 does not apply.
+  -- "though its bounds must be in range": refusals 3 to 6, and 14, "in a set too". A moving axis has those of its move, of which 1 does not
+  -- apply.
+  abbrev pub restChecks : List (Check ℕ)
+  restChecks = boundChecks (m .velocity) (m .acceleration) (m .jerk) (m .snap) ++ (spanCheck (m .displacement) (m .start) ∷ [])
+
   abbrev pub axisChecks : List (Check ℕ)
-  axisChecks = cond atRest (boundChecks (m .velocity) (m .acceleration) (m .jerk) (m .snap)) (checks m)
+  axisChecks = cond atRest restChecks (checks m)
 
   -- Its own N.
   abbrev pub ownSamples : ℕ

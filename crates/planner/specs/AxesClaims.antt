@@ -14,7 +14,7 @@ use Rattle.planner.specs.Intervals.{N}
 use Rattle.planner.specs.Result.{Result, refused, given, padded}
 use Rattle.planner.specs.Order.{FirstToApply, Rising}
 use Rattle.planner.specs.Outcome.{samplesOf, intervalsIn, Plans}
-use Rattle.planner.specs.Claims.{BoundsInRange, Accepted, IsPlanned}
+use Rattle.planner.specs.Claims.{BoundsInRange, EndsInSpan, Accepted, IsPlanned}
 use Rattle.planner.specs.Axes.{mostAxes, restPlan, axisChecks, PlansAxes, axesOutcome}
 use Rattle.planner.specs.declared.Move.{Move}
 use Rattle.planner.specs.declared.Plan.{Plan}
@@ -26,14 +26,14 @@ Moving m = 1 ≤ natAbs (m .displacement)
 abbrev pub Resting : Move → Type 0
 Resting m = natAbs (m .displacement) ≡ 0
 
--- A moving axis is accepted by itself; one at rest has its bounds in range.
+-- A moving axis is accepted by itself; one at rest has its bounds and its start in range.
 pub record AcceptedAxis (m : Move) : Type 0 where
   pub moving : Moving m → Accepted m
-  pub resting : Resting m → BoundsInRange (m .velocity) (m .acceleration) (m .jerk) (m .snap)
+  pub resting : Resting m → BoundsInRange (m .velocity) (m .acceleration) (m .jerk) (m .snap) × EndsInSpan m
 
 -- Axis i, from 0. Eight moves are sent, so `noMove` is never meant.
 abbrev pub noMove : Move
-noMove = record { displacement = pos 0; velocity = 0; acceleration = 0; jerk = 0; snap = 0 }
+noMove = record { displacement = pos 0; velocity = 0; acceleration = 0; jerk = 0; snap = 0; start = pos 0 }
 
 abbrev pub axisAt : List Move → ℕ → Move
 axisAt moves i = getD moves i noMove

@@ -2,7 +2,7 @@
 use mathlib.Core.Logic.{_↔_}
 use mathlib.Core.Path.{_≡_}
 use Prim.Native.Nat.{ℕ, _+_, _*_, _^_, _≤_}
-use lib.IntN.{natAbs, negℤ}
+use lib.IntN.{ℤ, natAbs, negℤ, _+ℤ_}
 use Rattle.planner.specs.Least.{least, IsLeast}
 use Rattle.planner.specs.Intervals.{p, q, r, s, N, P, J₁, A₁, V₁, fromB}
 use Rattle.planner.specs.Result.{Result, refused, given}
@@ -22,11 +22,21 @@ pub record BoundsInRange (V₀ A₀ J₀ S₀ : ℕ) : Type 0 where
   pub jerk : BoundInRange J₀
   pub snap : BoundInRange S₀
 
--- The figures of a move are in range: none of refusals 1 to 6 applies.
+-- A count within ±1,048,576.
+abbrev pub InSpan : (count : ℤ) → Type 0
+InSpan count = natAbs count ≤ mostCounts
+
+-- Document 02, request 7: the start, and the end, "start plus X", are in the span.
+pub record EndsInSpan (m : Move) : Type 0 where
+  pub start : InSpan (m .start)
+  pub end : InSpan (m .start +ℤ m .displacement)
+
+-- The figures of a move are in range: none of refusals 1 to 6 and 14 applies.
 pub record InRange (m : Move) : Type 0 where
   pub moves : 1 ≤ natAbs (m .displacement)
-  pub near : natAbs (m .displacement) ≤ mostCounts
+  pub near : InSpan (m .displacement)
   pub bounds : BoundsInRange (m .velocity) (m .acceleration) (m .jerk) (m .snap)
+  pub ends : EndsInSpan m
 
 -- "A move is accepted if its figures are in range and its rule needs at most 4,096 samples, and otherwise not."
 pub record Accepted (m : Move) : Type 0 where
@@ -45,7 +55,7 @@ AcceptanceClaim = (m : Move) (o : Result ℕ Plan) → Plans m o → IsPlanned o
 abbrev pub OneAnswerClaim : Type 0
 OneAnswerClaim = (m : Move) (x y : PlanAnswer) → Plans m (outcome x) → Plans m (outcome y) → x ≡ y
 
--- The same move the other way.
+-- The same move the other way, as seen from the rail's zero.
 abbrev pub mirrored : Move → Move
 mirrored m =
     record {
@@ -54,9 +64,10 @@ mirrored m =
       acceleration = m .acceleration;
       jerk = m .jerk;
       snap = m .snap;
+      start = negℤ (m .start);
     }
 
--- Acceptance depends on the size of X alone.
+-- X from the start is accepted exactly where −X from −start is.
 abbrev pub MirrorClaim : Type 0
 MirrorClaim = (m : Move) → Accepted m ↔ Accepted (mirrored m)
 

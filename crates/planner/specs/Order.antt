@@ -1,10 +1,11 @@
 -- Document 01, "Why a move or sheet is turned away": "Where several apply, the lowest number is given", as the theorems `first-given`,
--- `lowest-given` and `plan-order` say it of the checks.
-use mathlib.Core.Bool.{true, false}
+-- `lowest-given` and `plan-order` say it of the checks. Document 02, request 7, puts 14 among them.
+use mathlib.Core.Bool.{true, false, cond}
 use mathlib.Core.List.{List, [], _∷_, map}
 use mathlib.Core.Logic.{_⊎_, _↔_}
 use mathlib.Core.Path.{_≡_}
-use Prim.Native.Nat.{ℕ, _≤_, _<_}
+use Prim.Native.Nat.{ℕ, _*_, _≤_, _<_}
+use lib.Dec.{eqb}
 use Rattle.planner.specs.Result.{refused, given, Check, check, firstRefusal, Each}
 use Rattle.planner.specs.Outcome.{checks}
 use Rattle.planner.specs.declared.Move.{Move}
@@ -21,18 +22,22 @@ FirstToApply n (check refusal applies ∷ xs) = ((applies ≡ true) × (refusal 
 abbrev pub FirstClaim : Type 1
 FirstClaim = (R A : Type 0) (xs : List (Check R)) (x : A) (n : R) → (firstRefusal xs (given x) ≡ refused n) ↔ FirstToApply n xs
 
--- Each number is above the one before it.
+-- Where a refusal stands among the others: by its number, which is doubled to make room for 14, "after 6 and before 7".
+unfoldable pub rank : (number : ℕ) → ℕ
+rank number = cond (eqb number 14) 13 (2 * number)
+
+-- Each check stands above the one before it.
 abbrev pub Rising : List (Check ℕ) → Type 0
 Rising [] = Unit {0}
 Rising (x ∷ []) = Unit {0}
-Rising (x ∷ y ∷ xs) = (numberOf x < numberOf y) × Rising (y ∷ xs)
+Rising (x ∷ y ∷ xs) = (rank (numberOf x) < rank (numberOf y)) × Rising (y ∷ xs)
 
--- If the check applies, its number is n or above.
+-- If the check applies, it is that of n or stands above it.
 abbrev pub NotBelow : ℕ → Check ℕ → Type 0
-NotBelow n (check number applies) = applies ≡ true → n ≤ number
+NotBelow n (check number applies) = applies ≡ true → rank n ≤ rank number
 
--- Of a list whose numbers rise, as those of refusals 1 to 10 do: no check that applies has a number below the one that is given. That this
--- one applies is `FirstClaim`.
+-- Of checks that rise, as those of refusals 1 to 10 and 14 do: none that applies stands below the one that is given. That this one applies
+-- is `FirstClaim`.
 abbrev pub LowestClaim : Type 1
 LowestClaim = (A : Type 0) (xs : List (Check ℕ)) (x : A) (n : ℕ) → Rising xs → firstRefusal xs (given x) ≡ refused n → Each (NotBelow n) xs
 
@@ -41,4 +46,4 @@ abbrev pub InOrder : List (Check ℕ) → List ℕ → Type 0
 InOrder xs numbers = (map numberOf xs ≡ numbers) × Rising xs
 
 abbrev pub PlanOrderClaim : Type 0
-PlanOrderClaim = (m : Move) → InOrder (checks m) (1 ∷ 2 ∷ 3 ∷ 4 ∷ 5 ∷ 6 ∷ 7 ∷ [])
+PlanOrderClaim = (m : Move) → InOrder (checks m) (1 ∷ 2 ∷ 3 ∷ 4 ∷ 5 ∷ 6 ∷ 14 ∷ 7 ∷ [])

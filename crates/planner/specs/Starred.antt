@@ -19,9 +19,9 @@ abbrev pub shown : Result ℕ Plan → Columns
 shown (refused number) = refusal number
 shown (given x) = let t = intervalsIn x in columns (p t) (q t) (r t) (s t) (N t) (x .snap) (x .shortfall)
 
--- A row: what is sent, and what must come out. "S = J = G unless said."
+-- A row: what is sent, and what must come out. "S = J = G unless said", and the start is 0.
 abbrev pub row : (X V₀ A₀ : ℕ) → Columns → Move × Columns
-row X V₀ A₀ result = (record { displacement = pos X; velocity = V₀; acceleration = A₀; jerk = G; snap = G }, result)
+row X V₀ A₀ result = (record { displacement = pos X; velocity = V₀; acceleration = A₀; jerk = G; snap = G; start = pos 0 }, result)
 
 unfoldable pub starred : List (Move × Columns)
 starred =

@@ -7,7 +7,7 @@ use lib.Dec.{ltb}
 use Rattle.planner.specs.Least.{least}
 use Rattle.planner.specs.Intervals.{c, e}
 use Rattle.planner.specs.Result.{Result, refused, given, Check, check, firstRefusal}
-use Rattle.planner.specs.Outcome.{mostSamples, displacementChecks, boundChecksToJerk, distanceOf, number}
+use Rattle.planner.specs.Outcome.{mostSamples, displacementChecks, boundChecksToJerk, spanCheck, distanceOf, number}
 use Rattle.planner.specs.declared.Move.{Move}
 use Rattle.planner.specs.declared.ThirdPlan.{ThirdPlan}
 use Rattle.planner.specs.declared.ThirdAnswer.{ThirdAnswer}
@@ -57,11 +57,12 @@ module _ (m : Move) where
   unfoldable pub thirdSamplesOf : ℕ
   thirdSamplesOf = N₃ thirdIntervalsOf
 
-  -- Refusals 1 to 5 and 7: "S is not read, so refusal 6 is never given there."
+  -- Refusals 1 to 5, 14 and 7: "S is not read, so refusal 6 is never given there."
   abbrev pub thirdChecks : List (Check ℕ)
   thirdChecks =
       displacementChecks (m .displacement)
-      ++ (boundChecksToJerk (m .velocity) (m .acceleration) (m .jerk) ++ (check 7 (ltb mostSamples thirdSamplesOf) ∷ []))
+      ++ (boundChecksToJerk (m .velocity) (m .acceleration) (m .jerk)
+      ++ (spanCheck (m .displacement) (m .start) ∷ check 7 (ltb mostSamples thirdSamplesOf) ∷ []))
 
   unfoldable pub thirdOutcomeOf : Result ℕ ThirdPlan
   thirdOutcomeOf = firstRefusal thirdChecks (given (thirdPlanOf (distanceOf m) thirdIntervalsOf))

@@ -8,20 +8,21 @@ use lib.IntN.{natAbs}
 use Rattle.planner.specs.Intervals.{interval-b}
 use Rattle.planner.specs.Order.{InOrder}
 use Rattle.planner.specs.Result.{Result, refused}
-use Rattle.planner.specs.Outcome.{mostCounts, mostSamples, distanceOf}
-use Rattle.planner.specs.Claims.{BoundInRange, IsPlanned, mirrored}
+use Rattle.planner.specs.Outcome.{mostSamples, distanceOf}
+use Rattle.planner.specs.Claims.{BoundInRange, InSpan, EndsInSpan, IsPlanned, mirrored}
 use Rattle.planner.specs.Third.{N₃, P₃, thirdIntervalsOf, thirdSamplesOf, thirdChecks, PlansThird, thirdOutcome}
 use Rattle.planner.specs.declared.Move.{Move}
 use Rattle.planner.specs.declared.ThirdPlan.{ThirdPlan}
 use Rattle.planner.specs.declared.ThirdAnswer.{ThirdAnswer}
 
--- The figures that are read are in range: none of refusals 1 to 5 applies.
+-- The figures that are read are in range: none of refusals 1 to 5 and 14 applies.
 pub record ThirdInRange (m : Move) : Type 0 where
   pub moves : 1 ≤ natAbs (m .displacement)
-  pub near : natAbs (m .displacement) ≤ mostCounts
+  pub near : InSpan (m .displacement)
   pub velocity : BoundInRange (m .velocity)
   pub acceleration : BoundInRange (m .acceleration)
   pub jerk : BoundInRange (m .jerk)
+  pub ends : EndsInSpan m
 
 pub record ThirdAccepted (m : Move) : Type 0 where
   pub in-range : ThirdInRange m
@@ -30,7 +31,7 @@ pub record ThirdAccepted (m : Move) : Type 0 where
 abbrev pub ThirdAcceptanceClaim : Type 0
 ThirdAcceptanceClaim = (m : Move) (o : Result ℕ ThirdPlan) → PlansThird m o → IsPlanned o ↔ ThirdAccepted m
 
--- As for the fourth order, it depends on the size of X alone.
+-- As for the fourth order.
 abbrev pub ThirdMirrorClaim : Type 0
 ThirdMirrorClaim = (m : Move) → ThirdAccepted m ↔ ThirdAccepted (mirrored m)
 
@@ -40,7 +41,7 @@ OneThirdAnswerClaim = (m : Move) (x y : ThirdAnswer) → PlansThird m (thirdOutc
 
 -- The checks in their order.
 abbrev pub ThirdPlanOrderClaim : Type 0
-ThirdPlanOrderClaim = (m : Move) → InOrder (thirdChecks m) (1 ∷ 2 ∷ 3 ∷ 4 ∷ 5 ∷ 7 ∷ [])
+ThirdPlanOrderClaim = (m : Move) → InOrder (thirdChecks m) (1 ∷ 2 ∷ 3 ∷ 4 ∷ 5 ∷ 14 ∷ 7 ∷ [])
 
 -- "refusal 6 is never given there"
 abbrev pub NeverSixClaim : Type 0
@@ -55,6 +56,7 @@ withSnap S₀ m =
       acceleration = m .acceleration;
       jerk = m .jerk;
       snap = S₀;
+      start = m .start;
     }
 
 -- "S is not read": what is promised of a move is promised of it with every S.

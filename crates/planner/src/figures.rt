@@ -4,11 +4,9 @@ use crate::UNITS_PER_COUNT;
 use crate::bounds::BoundsAnswer;
 use crate::bounds::check_bounds_to_jerk;
 use crate::size::magnitude;
+use crate::span::MOST_COUNTS;
 ghost use mathlib.Core.Path.{_≡_};
 ghost use Rattle.planner.specs.Inner.Undivided.{figuresOutcome, figuresResult};
-
-// The farthest displacement, either way.
-const MOST_COUNTS: u64 = 1_048_576;
 
 // The distance W where none of these refusals applies. The bound on the snap is not looked at.
 pub(crate) enum FiguresAnswer {

@@ -9,6 +9,7 @@ mod intervals;
 mod min_max;
 mod search;
 mod size;
+mod span;
 mod third;
 
 use crate::axes::each::find_each;
@@ -18,6 +19,7 @@ use crate::division::divided;
 use crate::figures::FiguresAnswer;
 use crate::figures::check_figures;
 use crate::in_range::undivided_plan;
+use crate::span::ends_outside;
 use crate::third::third_in_range;
 pub use size::magnitude;
 ghost use mathlib.Core.Path.{_≡_};
@@ -32,8 +34,8 @@ pub const UNITS_PER_COUNT: u64 = 1_099_511_627_776;
 // The most axes of a set.
 pub const MOST_AXES: usize = 8;
 
-// A move as it is sent: the displacement X in counts, and the bounds V, A, J and S on the size of
-// velocity, acceleration, jerk and snap, in sub-count units and samples.
+// A move as it is sent: the displacement X in counts, the bounds V, A, J and S on the size of velocity, acceleration, jerk and snap, in
+// sub-count units and samples, and the count at which the move starts.
 #[repr(C)]
 pub struct Move {
     pub displacement: i64,
@@ -41,6 +43,7 @@ pub struct Move {
     pub acceleration: u64,
     pub jerk: u64,
     pub snap: u64,
+    pub start: i64,
 }
 
 // The intervals a, b, c and e in samples, the size D of the snap, and the shortfall W−D·P.
@@ -64,7 +67,7 @@ const REST: Plan = Plan {
     shortfall: 0,
 };
 
-// Refusals 1 to 7 and 13, in the order of their numbers.
+// Refusals 1 to 7, 13 and 14, in the order of their numbers.
 pub enum Refusal {
     NoDisplacement,
     DisplacementRange,
@@ -74,6 +77,7 @@ pub enum Refusal {
     SnapRange,
     TooManySamples,
     AxisCount,
+    StartOrEndRange,
 }
 
 // A third-order plan: the intervals b, c and e in samples, the size of the jerk, and the shortfall.
@@ -111,7 +115,14 @@ pub struct AxesPlan {
 pub fn plan_move(m: Move) -> PlanAnswer
     ensures { λ r. ⌜ Plans m (outcome r) ⌝ }
 {
-    let answer = undivided_plan(m.displacement, m.velocity, m.acceleration, m.jerk, m.snap);
+    let answer = undivided_plan(
+        m.displacement,
+        m.velocity,
+        m.acceleration,
+        m.jerk,
+        m.snap,
+        m.start,
+    );
     match answer {
         PlanAnswer::Planned(x) => PlanAnswer::Planned(divided(x)),
         PlanAnswer::Refused(refusal) => PlanAnswer::Refused(refusal),
@@ -130,6 +141,7 @@ pub fn plan_third(m: Move) -> ThirdAnswer
             m.velocity,
             m.acceleration,
             m.jerk,
+            ends_outside(m.displacement, m.start),
         ),
     }
 }
@@ -178,5 +190,6 @@ pub fn refusal_number(refusal: Refusal) -> u64
         Refusal::SnapRange => 6,
         Refusal::TooManySamples => 7,
         Refusal::AxisCount => 13,
+        Refusal::StartOrEndRange => 14,
     }
 }

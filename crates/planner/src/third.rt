@@ -10,11 +10,14 @@ ghost use Rattle.planner.specs.Third.{thirdOutcome};
 ghost use Rattle.planner.specs.Inner.Capped.{FiguresToJerk};
 ghost use Rattle.planner.specs.Inner.ThirdWithin.{thirdWithin};
 
-// The base's later intervals with a = 0 and J1 = J; or refusal 7.
-pub(crate) fn third_in_range(w: u64, v: u64, acc: u64, j: u64) -> ThirdAnswer
+// The base's later intervals with a = 0 and J1 = J; or refusal 14, where `outside` tells that it applies, or 7.
+pub(crate) fn third_in_range(w: u64, v: u64, acc: u64, j: u64, outside: bool) -> ThirdAnswer
     requires { ⌜ FiguresToJerk w v acc j ⌝ }
-    ensures { λ r. ⌜ thirdOutcome r ≡ thirdWithin w v acc j ⌝ }
+    ensures { λ r. ⌜ thirdOutcome r ≡ thirdWithin w v acc j outside ⌝ }
 {
+    if outside {
+        return ThirdAnswer::Refused(Refusal::StartOrEndRange);
+    }
     let t = later_intervals(w, v, acc, j, 0);
     let b = t.b;
     let c = t.c;

@@ -20,9 +20,9 @@ use Rattle.route_sheet.specs.Inner.Lines.{mostLine}
 use Rattle.route_sheet.proofs.DecimalLaws.{decimal-length, signed-length}
 
 module _ (number : ℕ) (m : Move) (few : number ≤ mostMoves) where
-  refusal-length : (n : ℕ) → n ≤ 7 → length (moveReport number (m .displacement) (refused n)) ≤ mostLine
+  refusal-length : (n : ℕ) → n ≤ 14 → length (moveReport number (m .displacement) (refused n)) ≤ mostLine
   unfolding moveReport field
-  refusal-length n h = simp length-append (omega (arith, decimal-length 2 number (omega arith), decimal-length 0 n (omega arith)))
+  refusal-length n h = simp length-append (omega (arith, decimal-length 2 number (omega arith), decimal-length 1 n (omega arith)))
 
   plan-length : (x : Plan) → PlanFacts m (intervalsOf m) x → length (moveReport number (m .displacement) (given x)) ≤ mostLine
   unfolding moveReport field

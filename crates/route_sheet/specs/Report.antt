@@ -38,7 +38,8 @@ moveReport moveNumber X (given x) =
     ++ (ascii " snap " ++ (signedDecimal (along X (pos (x .snap)))
     ++ ended lineEnd (field " short " (x .shortfall)))))))))
 
--- The move with the bounds of its set. A sheet's set numbers, from 1 on, are those of its sets, so none is missing.
+-- The move with the bounds of its set. A sheet's set numbers, from 1 on, are those of its sets, so none is missing. "all sheets mean start
+-- 0" (document 02, 7).
 unfoldable pub moveOf : List BoundSet → RouteMove → Move
 moveOf sets m =
     let bounds = getD sets (m .set - 1) zeroSet in
@@ -48,6 +49,7 @@ moveOf sets m =
       acceleration = bounds .acceleration;
       jerk = bounds .jerk;
       snap = bounds .snap;
+      start = pos 0;
     }
 
 -- The moves in their order, numbered from `first` on.

@@ -26,6 +26,7 @@ pub(crate) fn put_moves(out: &mut [u8; REPORT_BYTES], sheet: SheetReading, count
             acceleration: bounds.acceleration,
             jerk: bounds.jerk,
             snap: bounds.snap,
+            start: 0,
         };
         i += 1;
         at = put_move(out, at, i, m);

@@ -2,18 +2,18 @@
 // the paper alone.
 //
 // A request is a line: a letter, in third order after a 3 and a space, numbers with one space before each, and byte 10. A number is decimal,
-// and X may have a minus; or it is `x` and hexadecimal digits in lower case. The machine's numbers m1 to c are the bits of floats. The
-// requests and their answers:
+// and X and the start may have a minus; or it is `x` and hexadecimal digits in lower case. The machine's numbers m1 to c are the bits of
+// floats. The requests and their answers:
 //
-// p X V A J S: planned a b c e D shortfall
-// s X V A J S k: sample snap jerk acceleration velocity position count remainder
-// t X V A J S places first: rows R, places of the position table, sum S
-// r X V A J S places first: rows R, places of the reference table, sum S
-// f X V A J S m1 m2 k1 k2 k12 c places first: rows R, places of the force table as the bits of floats, sum S
+// p X V A J S start: planned a b c e D shortfall
+// s X V A J S start k: sample snap jerk acceleration velocity position count remainder
+// t X V A J S start places first: rows R, places of the position table, sum S
+// r X V A J S start places first: rows R, places of the reference table, sum S
+// f X V A J S start m1 m2 k1 k2 k12 c places first: rows R, places of the force table as the bits of floats, sum S
 // b n length: read SETS MOVES sum S, or refused 11 line L sum S, or refused 12 sum S; then the report
-// P count and eight times X V A J S: planned N, or refused R place L; then eight times a b c e D shortfall
-// S count and eight times X V A J S, k: sample, or refused R place L; then eight times the numbers of a sample, as above
-// 3 p X V A J S: planned b c e jerk shortfall, in third order
+// P count and eight times X V A J S start: planned N, or refused R place L; then eight times a b c e D shortfall
+// S count and eight times X V A J S start, k: sample, or refused R place L; then eight times the numbers of a sample, as above
+// 3 p X V A J S start: planned b c e jerk shortfall, in third order
 // 3 s, 3 t and 3 r, each with the numbers of its letter: the same in third order
 //
 // A move that is refused has `refused N` for its plan, its sample or its rows. A table is lent with the number of places that is asked for,

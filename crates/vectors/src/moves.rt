@@ -27,6 +27,7 @@ pub(crate) fn read_move() -> Move {
         acceleration: read_number(),
         jerk: read_number(),
         snap: read_number(),
+        start: signed(read_number()),
     }
 }
 

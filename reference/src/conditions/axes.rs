@@ -2,18 +2,19 @@
 
 use super::{ends, joined, refusals, roundings, row, Case, Condition, Rounds, Table};
 use crate::draw::axes::WRONG_COUNTS;
+use crate::draw::starts::SPAN_EDGES;
 use crate::planner::{plan_axes, plan_axis, Axes, AxesPlan, AxesRefusal};
 use crate::planner::{Move, Plan, LARGEST_BOUND, MOST_AXES};
 use crate::profile::Sample;
 use crate::request::Request;
 
 pub fn plans() -> Table {
-    let refused = joined([refusals(1..=7), refusals(13..=13), places(), order()]);
+    let refused = joined([refusals(1..=7), refusals(13..=14), places(), order()]);
     joined([refused, largest(), at_rest(), lengths(), raised()])
 }
 
 pub fn samples() -> Table {
-    let refused = joined([refusals(1..=7), refusals(9..=9), refusals(13..=13)]);
+    let refused = joined([refusals(1..=7), refusals(9..=9), refusals(13..=14)]);
     let samples = joined([ends(), after_ends(), halves()]);
     joined([refused, places(), largest(), samples])
 }
@@ -88,7 +89,8 @@ impl Set<'_> {
 
     /// Whether the position and the remainder of any shorter axis are so.
     fn any_shorter(&self, are: &Rounds) -> bool {
-        let at = |place| self.case.rounding(2 + Sample::NUMBERS * place);
+        let start = |place: usize| self.read[place].start;
+        let at = |place| (self.case).rounding(2 + Sample::NUMBERS * place, start(place));
         (0..self.own.len()).any(|place| self.own[place] < self.n() && are(at(place)))
     }
 }
@@ -139,7 +141,7 @@ fn largest() -> Table {
     [i64::MIN, i64::MAX].map(refused).into()
 }
 
-/// At rest the bounds alone are asked, wherever the axis stands.
+/// At rest the bounds and the start alone are asked, wherever the axis stands.
 fn at_rest() -> Table {
     let mut table = vec![
         planned("rest first", |set| set.own.first() == Some(&0)),
@@ -151,16 +153,25 @@ fn at_rest() -> Table {
     ];
     for (bound, name) in ["V", "A", "J", "S"].into_iter().enumerate() {
         for edge in [0, 1, LARGEST_BOUND, LARGEST_BOUND + 1] {
-            let is =
-                move |motion: &Move| motion.displacement == 0 && motion.bounds()[bound] == edge;
-            let decides = move |set: &Set| match set.refusal() {
-                0 => set.any(|motion, _| is(motion)),
-                number => number == 3 + bound as i128 && is(set.refused()),
-            };
-            table.push(set(format!("{name} = {edge} at rest"), decides));
+            let is = move |motion: &Move| motion.bounds()[bound] == edge;
+            table.push(resting(format!("{name} = {edge}"), 3 + bound as i128, is));
         }
     }
+    let starts = SPAN_EDGES.map(|(edge, _)| {
+        let is = move |motion: &Move| motion.start == edge;
+        resting(format!("start = {edge}"), 14, is)
+    });
+    table.extend(starts);
     table
+}
+
+/// An axis at rest is so, and the set is accepted or refused with this number for it.
+fn resting(name: String, refusal: i128, is: impl Fn(&Move) -> bool + 'static) -> Condition {
+    let is = move |motion: &Move| motion.displacement == 0 && is(motion);
+    set(format!("{name} at rest"), move |set| match set.refusal() {
+        0 => set.any(|motion, _| is(motion)),
+        number => number == refusal && is(set.refused()),
+    })
 }
 
 /// Which axis is the longest, alone or with others.
@@ -204,7 +215,9 @@ fn raised() -> Table {
 fn after_ends() -> Table {
     let after = |own: u64, set: &Set| own > 0 && u128::from(own) < set.case.k();
     let mut table = vec![
-        planned("rest beside a move", |set| set.axes_of(0) > 0),
+        planned("rest away from 0 beside a move", |set| {
+            set.any(|motion, own| own == 0 && motion.start != 0)
+        }),
         planned("after the own end, X > 0", move |set| {
             set.any(|motion, own| motion.displacement > 0 && after(own, set))
         }),
@@ -212,7 +225,7 @@ fn after_ends() -> Table {
             set.any(|motion, own| motion.displacement < 0 && after(own, set))
         }),
     ];
-    for number in [1, 2, 3, 7, 13] {
+    for number in [1, 2, 3, 7, 13, 14] {
         let beyond = move |set: &Set| set.refusal() == number && set.case.k() > 4_096;
         table.push(set(format!("{number} and 9"), beyond));
     }

@@ -33,18 +33,24 @@ impl Case<'_> {
             .map_or(0, |motion| motion.displacement)
     }
 
+    /// The start count and the end count.
+    pub fn ends(&self) -> [i128; 2] {
+        self.request.motion().map_or([0; 2], Move::ends)
+    }
+
     pub fn bounds(&self) -> [u64; 4] {
         self.request
             .motion()
             .map_or([0; 4], |motion| motion.bounds())
     }
 
-    /// The intervals, also where N is above 4,096.
+    /// The intervals, also where N is above 4,096 or the start or the end is refused.
     pub fn found(&self) -> Option<Intervals> {
-        Intervals::of(self.request.order(), self.request.motion()?).ok()
+        let motion = self.request.motion()?.starting_at(0);
+        Intervals::of(self.request.order(), &motion).ok()
     }
 
-    /// N, also where it is above 4,096; of a set the largest of its axes.
+    /// N, of any intervals that are found; of a set the largest of its axes.
     pub fn n(&self) -> u128 {
         match Set::of(self) {
             Some(set) => set.n().into(),
@@ -136,9 +142,12 @@ impl Case<'_> {
         }
     }
 
-    /// The position and the remainder of the sample whose numbers begin at this field.
-    pub fn rounding(&self, first: usize) -> [i64; 2] {
-        [Sample::POSITION, Sample::REMAINDER].map(|number| self.field(first + number) as i64)
+    /// The position, its distance from the start and the remainder of the sample whose
+    /// numbers begin at this field.
+    pub fn rounding(&self, first: usize, start: i64) -> [i64; 3] {
+        let number = |number| self.field(first + number) as i64;
+        let [position, remainder] = [Sample::POSITION, Sample::REMAINDER].map(number);
+        [position, position - (start << 40), remainder]
     }
 
     pub fn places(&self) -> i128 {

@@ -1,7 +1,7 @@
 //! Sets of axes: about half are accepted.
 
 use super::moves::{self, BOUND_EDGES};
-use super::Random;
+use super::{starts, Random};
 use crate::planner::{plan, plan_axis, Axes, Move, Order, MOST_AXES};
 
 /// Counts that are refused; cut to 8, 32 or 63 bits some would not be.
@@ -36,19 +36,20 @@ pub fn any(random: &mut Random) -> Axes {
 /// An axis that its set accepts.
 fn accepted(random: &mut Random) -> Move {
     let motion = moves::planned(random);
-    match random.below(6) {
+    let motion = match random.below(6) {
         0 => Move::new(0, motion.bounds()),
         1 => Move::new(0, [0; 4].map(|_| random.pick(&[1, 1 << 50]))),
         _ => motion,
-    }
+    };
+    starts::in_span(motion, random)
 }
 
-/// An axis at rest, often with a bound out of range.
+/// An axis at rest, often with a bound or its start out of range.
 fn at_rest(random: &mut Random) -> Move {
     let mut bounds = accepted(random).bounds();
     let (edge, _) = random.pick(&BOUND_EDGES);
     bounds[random.below(4) as usize] = edge;
-    Move::new(0, bounds)
+    starts::anywhere(Move::new(0, bounds), random)
 }
 
 /// An axis that refuses its set.
@@ -56,7 +57,7 @@ fn refused(random: &mut Random) -> Move {
     loop {
         let motion = match random.below(3) {
             0 => at_rest(random),
-            _ => moves::any(Order::Fourth, random),
+            _ => starts::any(Order::Fourth, random),
         };
         if plan_axis(&motion).is_err() {
             return motion;

@@ -1,5 +1,5 @@
-//! Sets in which the words of document 02's request 1 decide, each with what refuses
-//! it: the place and the number, both 0 if nothing does. Every run sends them first.
+//! Sets in which the words of document 02's requests 1 and 7 decide, each with what
+//! refuses it: the place and the number, both 0 if nothing does. Every run sends them first.
 
 use super::paper;
 use crate::planner::{Axes, Move, LARGEST_BOUND, MOST_AXES};
@@ -16,6 +16,7 @@ pub fn sets() -> Vec<(Axes, (u64, u8))> {
     let [short, long, _, _, _, _, longest, too_long, ..] = paper::moves();
     let beyond = Move::new(i64::MIN, [0; 4]);
     let rest = |bounds| Move::new(0, bounds);
+    let at = |start, motion: Move| motion.starting_at(start);
     let mut eight = [short; MOST_AXES];
     eight[7] = beyond;
     let mut list = vec![
@@ -26,6 +27,14 @@ pub fn sets() -> Vec<(Axes, (u64, u8))> {
         (set(&eight, long), (8, 2)),
         (set(&[short, long], beyond), (0, 0)),
         (set(&[long, short], longest), (0, 0)),
+        (set(&[short, at(1 << 20, too_long)], long), (2, 14)),
+        (set(&[too_long, at(1 << 20, short)], long), (1, 7)),
+        (
+            set(&[short, at(-2 << 20, rest([1, 1, 1, 0]))], long),
+            (2, 6),
+        ),
+        (set(&[at(i64::MIN, rest([1; 4])); 3], long), (0, 1)),
+        (set(&[short, long], at(i64::MAX, short)), (0, 0)),
     ];
     for count in [0, 9, u64::MAX] {
         let moves = [short, rest([0; 4])].map(|motion| [motion; MOST_AXES]);

@@ -1,7 +1,7 @@
 //! Samples at a half count and a unit beside it, of a move and of raised axes.
 
 use super::samples::nearest_half;
-use super::{moves, Random};
+use super::{moves, starts, Random};
 use crate::planner::{product, Axes, Move, Order, Plan, MOST_AXES};
 use crate::profile::Profile;
 
@@ -37,10 +37,11 @@ fn row(order: Order, random: &mut Random) -> (i64, [u64; 4], u64) {
     }
 }
 
-/// A move in either direction with these intervals.
+/// A move in either direction with these intervals, from a start in the span.
 fn motion(x: i64, intervals: [u64; 4], random: &mut Random) -> Move {
     let x = x * random.pick(&[1, -1]);
-    moves::bounded(x, intervals.map(u128::from), [0; 3], random)
+    let motion = moves::bounded(x, intervals.map(u128::from), [0; 3], random);
+    starts::in_span(motion, random)
 }
 
 pub fn of_move(order: Order, random: &mut Random) -> (Move, u64) {

@@ -26,7 +26,7 @@ pub const BOUND_EDGES: [(u64, bool); 5] = [
     (u64::MAX, false),
 ];
 
-/// Any move for plans of an order; in third order S is anything.
+/// Any move for plans of an order, from start 0; in third order S is anything.
 pub fn any(order: Order, random: &mut Random) -> Move {
     let mut motion = match random.below(16) {
         0 => random.pick(&paper::moves()),

@@ -1,16 +1,16 @@
 //! What is asked about a move: a sample, or a table of so many places; and a
 //! sample of a set.
 
-use super::{axes, halves, moves, Random};
+use super::{axes, halves, starts, Random};
 use crate::planner::{plan, plan_axes, Axes, Move, Order, UNITS_PER_COUNT};
-use crate::profile::Profile;
+use crate::profile::{Profile, State};
 
 /// Any move and a sample.
 pub fn of_move(order: Order, random: &mut Random) -> (Move, u64) {
     if random.once_in(16) {
         return halves::of_move(order, random);
     }
-    let motion = moves::any(order, random);
+    let motion = starts::any(order, random);
     let k = match Profile::of(order, &motion) {
         Ok(profile) => of_profile(&profile, random),
         Err(_) => random.log_uniform(5_000),
@@ -66,19 +66,18 @@ fn borders(profile: &Profile) -> Vec<u64> {
 }
 
 pub fn nearest_half(profile: &Profile) -> u64 {
-    let distance = |position: i64| beyond_half(position).abs();
-    let positions = profile.states().map(|(_, state)| state.position);
-    let nearest = positions
-        .zip(0..)
-        .min_by_key(|(position, _)| distance(*position));
+    let start = profile.first_position();
+    let beyond = |state: &State| beyond_half(state.position - start).abs();
+    let states = profile.states().map(|(_, state)| state).zip(0..);
+    let nearest = states.min_by_key(|(state, _)| beyond(state));
     nearest.map_or(0, |(_, k)| k)
 }
 
-/// How far the size of a position is beyond the middle between its two counts;
-/// it is negative before it.
-pub fn beyond_half(position: i64) -> i64 {
+/// How far the size of a distance from the start is beyond the middle between two
+/// counts; it is negative before it.
+pub fn beyond_half(distance: i64) -> i64 {
     let half = UNITS_PER_COUNT as i64 / 2;
-    (position.unsigned_abs() as i64) % (2 * half) - half
+    (distance.unsigned_abs() as i64) % (2 * half) - half
 }
 
 /// Places for N and `more` rows: none, one too few, just enough, or longer.

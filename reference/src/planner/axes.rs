@@ -61,8 +61,8 @@ pub fn plan_axes(axes: &Axes) -> Result<AxesPlan, AxesRefusal> {
     Ok(set)
 }
 
-/// The plan of an axis by itself, or its own refusal, 2 to 7; one at rest is asked
-/// for its bounds alone.
+/// The plan of an axis by itself, or its own refusal, 2 to 7 or 14; one at rest is
+/// asked for its bounds and its start alone.
 pub fn plan_axis(motion: &Move) -> Result<Plan, u8> {
     if motion.displacement == 0 {
         let refusal = motion.bound_refusal(Order::Fourth);

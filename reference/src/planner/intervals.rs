@@ -43,7 +43,7 @@ pub struct Intervals {
 }
 
 impl Intervals {
-    /// The intervals of a move, or the one of the refusals 1 to 6 that applies.
+    /// The intervals of a move, or the one of the refusals 1 to 6 and 14 that applies.
     pub fn of(order: Order, motion: &Move) -> Result<Intervals, u8> {
         if let Some(number) = motion.range_refusal(order) {
             return Err(number);

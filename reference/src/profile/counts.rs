@@ -1,4 +1,4 @@
-//! Rounding a position in units to counts (document 02, request 2).
+//! Rounding a position in units to counts (document 02, requests 2 and 7).
 
 use crate::planner::UNITS_PER_COUNT;
 
@@ -9,14 +9,18 @@ pub struct Rounding {
     pub remainder: i64,
 }
 
-/// Any position to its nearest count, halves away from zero.
-pub fn rounded(position: i64) -> Rounding {
+/// Any position to its nearest count: the distance from the start, a count, is
+/// rounded, halves away from the start.
+pub fn rounded(start: i64, position: i64) -> Rounding {
+    let (start, position) = (i128::from(start), i128::from(position));
+    let distance = position - UNITS_PER_COUNT as i128 * start;
     // The size is rounded, so both directions have the same rule; in 128 bits
-    // nothing overflows: the largest position is 1 below 2^23·G.
-    let size = u128::from(position.unsigned_abs());
-    let count = (size + UNITS_PER_COUNT / 2) / UNITS_PER_COUNT;
-    let count = count as i64 * position.signum();
-    let remainder = i128::from(position) - UNITS_PER_COUNT as i128 * i128::from(count);
-    let remainder = remainder as i64;
-    Rounding { count, remainder }
+    // nothing overflows.
+    let size = (distance.unsigned_abs() + UNITS_PER_COUNT / 2) / UNITS_PER_COUNT;
+    let count = start + size as i128 * distance.signum();
+    let remainder = position - UNITS_PER_COUNT as i128 * count;
+    Rounding {
+        count: count as i64,
+        remainder: remainder as i64,
+    }
 }

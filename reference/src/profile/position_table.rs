@@ -20,7 +20,8 @@ pub fn position_table(order: Order, motion: &Move, table: &mut [i64]) -> TableAn
 /// that the loop is as fast as in a build without overflow checks: other
 /// programs are timed against it.
 fn fill(profile: &Profile, table: &mut [i64]) {
-    let (mut jerk, mut acceleration, mut velocity, mut position) = (0_i64, 0_i64, 0_i64, 0_i64);
+    let (mut jerk, mut acceleration, mut velocity) = (0_i64, 0_i64, 0_i64);
+    let mut position = profile.first_position();
     let mut rest = table;
     for segment in &profile.segments {
         let (rows, after) = rest.split_at_mut(segment.samples);

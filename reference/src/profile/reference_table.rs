@@ -1,4 +1,4 @@
-//! The table of reference rows for the feedback loop (document 02, request 4).
+//! The table of reference rows for the feedback loop (document 02, requests 4, 7).
 
 use super::{Profile, TableAnswer, MORE_ROWS};
 use crate::planner::{Move, Order};
@@ -12,8 +12,8 @@ pub fn reference_table(order: Order, motion: &Move, table: &mut [i64]) -> TableA
     };
     let rows = profile.samples + MORE_ROWS;
     let mut positions = profile.states().map(|(_, state)| state.position);
-    // The position before sample 0.
-    let mut before = 0;
+    // The position before sample 0 is the start's.
+    let mut before = profile.first_position();
     for row in &mut table[..rows as usize] {
         // After sample N the last position is held.
         let here = positions.next().unwrap_or(before);

@@ -6,7 +6,7 @@ use crate::planner::{plan_axes, Axes, AxesRefusal, Move, Order, MOST_AXES};
 /// What the one-sample entry says.
 #[derive(Clone, Copy, Debug, PartialEq, Eq)]
 pub enum SampleAnswer {
-    /// The number of the refusal, 1 to 7 or 9.
+    /// The number of the refusal, 1 to 7, 9 or 14.
     Refused(u8),
     Sampled(Sample),
 }
@@ -55,7 +55,7 @@ impl Sample {
     fn of(profile: &Profile, k: u64) -> Sample {
         let asked = profile.states().nth(k as usize);
         let (snap, state) = asked.expect("samples 0 to N are there");
-        let Rounding { count, remainder } = rounded(state.position);
+        let Rounding { count, remainder } = rounded(profile.start, state.position);
         Sample {
             snap,
             jerk: state.jerk,
@@ -77,8 +77,8 @@ pub fn sample(order: Order, motion: &Move, k: u64) -> SampleAnswer {
     }
 }
 
-/// The values of every axis at sample k, 0 for one at rest and after the last; 9
-/// comes after the axes, and k may be beyond the end that an axis has by itself.
+/// The values of every axis at sample k, 0 after the last; 9 comes after the axes, and
+/// k may be beyond the end that an axis has by itself.
 pub fn sample_axes(axes: &Axes, k: u64) -> Result<[Sample; MOST_AXES], AxesRefusal> {
     let set = plan_axes(axes)?;
     if k > set.samples {
@@ -86,11 +86,11 @@ pub fn sample_axes(axes: &Axes, k: u64) -> Result<[Sample; MOST_AXES], AxesRefus
         return Err(AxesRefusal { place, number });
     }
     let mut samples = [Sample::default(); MOST_AXES];
-    for (place, plan) in set.plans.iter().enumerate() {
-        if plan.samples() > 0 {
-            let profile = Profile::planned(Order::Fourth, &axes.moves[place], plan);
-            samples[place] = Sample::of(&profile, k);
-        }
+    let read = axes.moves.iter().zip(&set.plans).take(axes.count as usize);
+    for ((motion, plan), sample) in read.zip(&mut samples) {
+        let profile = Profile::planned(Order::Fourth, motion, plan);
+        // The profile of an axis at rest is its sample 0.
+        *sample = Sample::of(&profile, k.min(profile.samples));
     }
     Ok(samples)
 }

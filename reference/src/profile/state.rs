@@ -2,9 +2,9 @@
 
 /// Jerk, acceleration, velocity and position at one sample.
 ///
-/// 64 bits are enough: the bounds hold the first three to 2^50, and a position
-/// never passes W, which is at most 2^60.
-#[derive(Clone, Copy, Debug, PartialEq, Eq)]
+/// 64 bits are enough: the bounds hold the first three to 2^50, and a position lies
+/// between the start and the end, which are at most 2^60 in size.
+#[derive(Clone, Copy, Debug, Default, PartialEq, Eq)]
 pub struct State {
     pub jerk: i64,
     pub acceleration: i64,
@@ -13,14 +13,6 @@ pub struct State {
 }
 
 impl State {
-    /// The state at sample 0.
-    pub const REST: State = State {
-        jerk: 0,
-        acceleration: 0,
-        velocity: 0,
-        position: 0,
-    };
-
     /// The state one sample later. Each value grows by the next higher
     /// derivative as it was, not as it becomes.
     pub fn next(self, snap: i64) -> State {

@@ -1,10 +1,11 @@
 //! Requests about document 01's own values: its moves in both directions, the first
 //! one's samples and tables, a half count of the second, the three forces, the sheet;
-//! its moves as axes, and in third order, with the samples and tables of the worked move.
+//! its moves as axes, and in third order, with the samples and tables of the worked move;
+//! and its first and second moves from a start.
 
 use crate::draw::paper;
-use crate::planner::Axes;
 use crate::planner::Order::{Fourth, Third};
+use crate::planner::{Axes, Move};
 use crate::request::Request;
 
 /// Places of a table that are lent for a move of 8 samples: more than it fills.
@@ -29,6 +30,26 @@ pub fn requests() -> Vec<Request> {
     list.extend([1, 2, 7, 8].map(|count| Request::PlanAxes(set(count))));
     list.extend([4, 9, 12, 13].map(|k| Request::SampleAxes(set(2), k)));
     list.extend(third());
+    list.extend(started());
+    list
+}
+
+/// The first from 100, the second across the rail's zero, where half counts go away from
+/// the start; beside a rest and in third order; and the edges of the span.
+fn started() -> Vec<Request> {
+    let [first, second, ..] = paper::moves();
+    let rest = Move::new(0, first.bounds()).starting_at(-7);
+    let (first, second) = (first.starting_at(100), second.starting_at(-5));
+    let mut list: Vec<_> = (0..=8).map(|k| Request::Sample(Fourth, first, k)).collect();
+    list.extend((0..=12).map(|k| Request::Sample(Fourth, second, k)));
+    let moves = [first, rest, second, first, first, first, first, first];
+    list.extend([4, 12].map(|k| Request::SampleAxes(Axes { count: 3, moves }, k)));
+    for order in [Fourth, Third] {
+        list.push(Request::Positions(order, first, PLACES));
+        list.push(Request::Reference(order, first, PLACES));
+        let edges = [1_048_569, 1_048_568, -1_048_576, -1_048_577].into_iter();
+        list.extend(edges.map(|start| Request::Plan(order, first.starting_at(start))));
+    }
     list
 }
 

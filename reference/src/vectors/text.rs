@@ -39,8 +39,8 @@ pub fn input(request: &Request, outcome: &Outcome) -> Vec<u8> {
 }
 
 fn of_move(motion: &Move) -> String {
-    let bounds = motion.bounds().map(|bound| format!(" {bound}"));
-    format!(" {}{}", motion.displacement, bounds.concat())
+    let bounds = motion.bounds().map(|bound| format!(" {bound}")).concat();
+    format!(" {}{bounds} {}", motion.displacement, motion.start)
 }
 
 fn of_axes(axes: &Axes) -> String {

@@ -12,7 +12,7 @@ use lib.Ieee.Scale.{finite}
 use lib.Ieee.Positive.{num, den, den-pos, first-pos}
 use Rattle.planner.specs.Quantities.{signed}
 use Rattle.motion.specs.ForceRows.Claims.{IsRounded}
-use Rattle.motion.proofs.IntegerLaws.{size-sum}
+use Rattle.planner.proofs.IntegerSizes.{size-sum}
 use Rattle.motion.proofs.ForceRows.SignedLaws.{size-signed}
 use Rattle.motion.proofs.ForceRows.SignedSums.{signed-sum}
 use Rattle.motion.proofs.ForceRows.RoundedLaws.{cast-rounded, opened-sum, opened-product, opened-quotient}

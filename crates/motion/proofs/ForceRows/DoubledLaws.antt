@@ -13,7 +13,8 @@ use Rattle.motion.specs.Sampling.{valuesAt}
 use Rattle.motion.specs.ForceRows.Doubled.{Doubled, earlier, upTo, doubled}
 use Rattle.motion.specs.Inner.Steps.{stateAt}
 use Rattle.motion.specs.Inner.Planned.{WithinRange, directedSnap, plannedNumbers}
-use Rattle.motion.proofs.IntegerLaws.{size-sum, size-doubled}
+use Rattle.planner.proofs.IntegerSizes.{size-sum}
+use Rattle.motion.proofs.IntegerLaws.{size-doubled}
 use Rattle.motion.proofs.OrderedLaws.{fourth-end}
 use Rattle.motion.proofs.KeptRules.{fourth-follows}
 use Rattle.motion.proofs.RestLaws as rest

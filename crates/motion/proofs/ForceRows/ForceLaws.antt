@@ -4,7 +4,7 @@ use mathlib.Core.Path.{_≡_, refl, sym, ap, ap₂, subst, _∙_, fun-ext}
 use Prim.Native.Nat.{ℕ, zero, suc, _+_, _≤_}
 use native.Mathlib.Numerals.{add-one}
 use native.Mathlib.Omega.{arith}
-use lib.IntN.{ℤ}
+use lib.IntN.{ℤ, pos}
 use lib.ListN.{length}
 use lib.Ieee.{Float}
 use Rattle.planner.specs.Intervals.{Intervals, N}
@@ -18,7 +18,7 @@ use Rattle.motion.specs.declared.force.feedforward.Feedforward.{Feedforw
 use Rattle.motion.specs.declared.force.doubled.Earlier.{Earlier}
 use Rattle.motion.specs.declared.force.rows.Row.{Row}
 use Rattle.motion.specs.declared.force.rows.RowState.{RowState}
-use Rattle.motion.specs.Inner.Steps.{stateAt}
+use Rattle.motion.specs.Inner.Steps.{sumFrom, stateFrom}
 use Rattle.motion.specs.Inner.Runs.{CanRun, Ran}
 use Rattle.motion.specs.Inner.Rows.{IsFeedforward, uBy, forceBy, rowIn, firstRow, forceWriter}
 use Rattle.motion.specs.Inner.Planned.{WithinRange, directedSnap, RowsIn, plannedNumbers}
@@ -61,7 +61,7 @@ module _ {m : Machine Float} {x : Feedforward} (is : IsFeedforward m x) (f : ℕ
       }
 
   rowStateAt : ℕ → RowState
-  rowStateAt k = record { state = stateAt f k; earlier = earlierAt k; previous = previousRow drive (u m numbers) k }
+  rowStateAt k = record { state = stateFrom (pos 0) f k; earlier = earlierAt k; previous = previousRow drive (u m numbers) k }
 
   u-is : (k : ℕ) → uBy (x .q) (numbers k) ≡ u m numbers k
   unfolding uBy u sumInU
@@ -79,7 +79,8 @@ module _ {m : Machine Float} {x : Feedforward} (is : IsFeedforward m x) (f : ℕ
   unfolding rowStateAt earlierAt previousRow earlier sum sums forceRow
   carried =
       record {
-        next = λ k. λ i. record { state = (next f k ∙ ap (stateAt f) (add-one k)) i; earlier = earlierAt (suc k); previous = row-is k i };
+        next = λ k. λ i.
+            record { state = (next (pos 0) f k ∙ ap (stateFrom (pos 0) f) (add-one k)) i; earlier = earlierAt (suc k); previous = row-is k i };
         place-is = λ k. refl;
       }
 
@@ -92,10 +93,10 @@ module _ (X : ℤ) (t : Intervals) (D : ℕ) (h : WithinRange t D) {m : Machine 
       → trailing ≤ 2
       → N t + trailing ≤ places
       → CanRun (forceWriter x) (run X (fourthSegments t) D trailing) firstRow places
-  unfolding rowStateAt earlierAt previousRow doubled earlier sum sums valuesAt profile.snap
+  unfolding rowStateAt earlierAt previousRow doubled earlier sum sums sumFrom valuesAt profile.snap
   forces-can-run trailing few l =
       can-run X (fourthSegments t) D (N t) (fourth-samples (h .ordered)) (carried is snap) trailing
-      (λ i k. record { step = step-fits X t D h i (omega (arith, h .samples)); casts = castable X t D h i })
+      (λ i k. record { step = step-fits X t D h (pos 0) (omega arith) i (omega (arith, h .samples)); casts = castable X t D h i })
       l
 
   pub forces-in :
@@ -103,7 +104,7 @@ module _ (X : ℤ) (t : Intervals) (D : ℕ) (h : WithinRange t D) {m : Machine 
       → N t + 2 ≤ length old
       → Ran (forceWriter x) (run X (fourthSegments t) D 2) firstRow old new end
       → RowsIn (N t + 2) (forceRow m (plannedNumbers X t D)) old new
-  unfolding rowStateAt earlierAt previousRow earlier sum sums valuesAt profile.snap
+  unfolding rowStateAt earlierAt previousRow earlier sum sums sumFrom valuesAt profile.snap
   forces-in {old} {new} l ran =
       let same : (λ k. rowIn x (rowStateAt is snap k) .force) ≡ forceRow m (plannedNumbers X t D) =
       fun-ext (λ k. ap (λ (r : Row). r .force) (row-is is snap k)) ∙ ap (forceRow m) (sym (numbers-are X t D h)) in

@@ -3,6 +3,7 @@ use borrow.Author.Tests.{eq-eqb, ne-eqb}
 use mathlib.Core.Bool.{true, false, true≢false}
 use mathlib.Core.Path.{_≡_, refl, sym, _∙_}
 use mir.Syntax.{w64}
+use mir.Val.{toZ, ofZ}
 use mir.Facts.{toZ-ofZ}
 use lib.IntN.{natAbs}
 use Prim.Native.Nat.{_-_, _<_}
@@ -13,7 +14,7 @@ use Rattle.planner.specs.declared.Move.{Move}
 use Rattle.planner.specs.Claims.{IsPlanned}
 use Rattle.motion.specs.Axes.{axesSampleOutcome}
 use Rattle.motion.proofs.AxesSampleRuns.{SampledSoFar, Reached, reached, given-before, most, axis-needs}
-use Rattle.motion.proofs.AxesSampleRuns.{sampled-next, rest-next, sampled-all}
+use Rattle.motion.proofs.AxesSampleRuns.{sampled-next, sampled-all}
 use Rattle.motion.proofs.sample_axes.Statement.{statement}
 use Rattle.motion.proofs.sample_axes.Tie as tie
 
@@ -59,6 +60,17 @@ rests c = eq-eqb _ _ (sym (size (c .before)) ∙ c .if1 .taken)
 moving : (c : tie.Else1 Inv-loop μ-loop) → atRest (read (c .before)) ≡ false
 moving c = ne-eqb _ _ (λ h. c .if1 .left (size (c .before) ∙ h))
 
+-- its start as the machine reads it back
+resting-start :
+    (c : tie.After-struct-told2 Inv-loop μ-loop) → toZ w64 (ofZ w64 (read (c .before .before) .start)) ≡ read (c .before .before) .start
+resting-start c = toZ-ofZ {w = w64} (record { sfits = c .struct-told2 .given .1 .1 .1 .1 .1 .0 .1 })
+
+moving-start :
+    (c : tie.After-struct-told4 Inv-loop μ-loop)
+    → let m = read (c .before .before .before .before) in
+    toZ w64 (ofZ w64 (m .start)) ≡ m .start
+moving-start c = toZ-ofZ {w = w64} (record { sfits = c .struct-told4 .given .1 .1 .1 .1 .1 .0 .1 })
+
 plan-axes-requires : tie.Need-plan-axes-requires Inv-loop μ-loop
 plan-axes-requires c κs = tt
 
@@ -80,16 +92,31 @@ array-copy-out-m c = omega (arith, place c)
 magnitude-requires : tie.Need-magnitude-requires Inv-loop μ-loop
 magnitude-requires c κs = tt
 
+at-start-requires : tie.Need-at-start-requires Inv-loop μ-loop
+at-start-requires c κs =
+    let l = c .before .before .before .before .before in
+    rw (resting-start c) (axis-needs (omega arith) (there l .planned) (axis l) (there l .within-end) .start)
+
+mul-samples : tie.Need-mul-samples Inv-loop μ-loop
+mul-samples c = omega (arith, place (c .before .before .before .before .before .before))
+
+array-set-from-samples : tie.Need-array-set-from-samples Inv-loop μ-loop
+array-set-from-samples c =
+    let l = c .before .before .before .before .before .before in
+    omega (arith, place l, l .before .loop .inv .places)
+
 add-i : tie.Need-add-i Inv-loop μ-loop
-add-i c = omega (arith, place (c .before .before .before .before))
+add-i c = omega (arith, place (c .before .before .before .before .before .before))
 
 loop-less : tie.Need-loop-less Inv-loop μ-loop
 loop-less c = omega arith
 
 loop-again : tie.Need-loop-again Inv-loop μ-loop
 loop-again c =
-    let l = c .before .before .before .before in
-    rest-next (omega arith) (there l .planned) (axis l) (l .before .loop .inv) (l .loop-test .taken) (rests c)
+    let l = c .before .before .before .before .before .before in
+    let r = rests (c .before .before) in
+    sampled-next (omega arith) (there l .planned) (axis l) (l .before .loop .inv) (l .loop-test .taken)
+    (record { moving = λ h. absurd (true≢false (sym r ∙ h)); resting = λ h. rw (resting-start (c .before)) at (c .at-start .ensures) })
 
 mul-plan : tie.Need-mul-plan Inv-loop μ-loop
 mul-plan c = omega (arith, place (c .before .before .before .before))
@@ -99,33 +126,36 @@ element-copy-out-plan c = omega (arith, place (c .before .before .before .before
 
 sample-in-plan-requires : tie.Need-sample-in-plan-requires Inv-loop μ-loop
 sample-in-plan-requires c κs =
-    let l = c .before .before .before .before .before .before in
-    let h = moving (c .before .before) in
-    let p = axis-needs (omega arith) (there l .planned) (axis l) (there l .within-end) in
-    (p .plan h, p .sample h)
-
-mul-samples : tie.Need-mul-samples Inv-loop μ-loop
-mul-samples c = omega (arith, place (c .before .before .before .before .before .before .before))
-
-array-set-from-samples : tie.Need-array-set-from-samples Inv-loop μ-loop
-array-set-from-samples c =
     let l = c .before .before .before .before .before .before .before in
+    let h = moving (c .before .before .before) in
+    let p = axis-needs (omega arith) (there l .planned) (axis l) (there l .within-end) in
+    (p .plan h, (rw (moving-start c) (p .start), p .sample h))
+
+mul-samples-2 : tie.Need-mul-samples-2 Inv-loop μ-loop
+mul-samples-2 c = omega (arith, place (c .before .before .before .before .before .before .before .before))
+
+array-set-from-samples-2 : tie.Need-array-set-from-samples-2 Inv-loop μ-loop
+array-set-from-samples-2 c =
+    let l = c .before .before .before .before .before .before .before .before in
     omega (arith, place l, l .before .loop .inv .places)
 
 add-i-2 : tie.Need-add-i-2 Inv-loop μ-loop
-add-i-2 c = omega (arith, place (c .before .before .before .before .before .before .before))
+add-i-2 c = omega (arith, place (c .before .before .before .before .before .before .before .before))
 
 loop-less-2 : tie.Need-loop-less-2 Inv-loop μ-loop
 loop-less-2 c = omega arith
 
 loop-again-2 : tie.Need-loop-again-2 Inv-loop μ-loop
 loop-again-2 c =
-    let l = c .before .before .before .before .before .before .before in
-    let m = moving (c .before .before .before) in
-    let X = read (c .before .before .before .before) .displacement in
-    let back = toZ-ofZ {w = w64} {z = X} (record { sfits = c .before .struct-told2 .given .0 .1 }) in
+    let l = c .before .before .before .before .before .before .before .before in
+    let m = moving (c .before .before .before .before) in
+    let X = read (c .before .before .before .before .before) .displacement in
+    let back = toZ-ofZ {w = w64} {z = X} (record { sfits = c .before .struct-told4 .given .0 .1 }) in
     sampled-next (omega arith) (there l .planned) (axis l) (l .before .loop .inv) (l .loop-test .taken)
-    (record { moving = λ h. rw back at (c .sample-in-plan .ensures); resting = λ h. absurd (true≢false (sym h ∙ m)) })
+    (record {
+      moving = λ h. rw (back, moving-start (c .before)) at (c .sample-in-plan .ensures);
+      resting = λ h. absurd (true≢false (sym h ∙ m));
+    })
 
 returns : tie.Need-returns Inv-loop μ-loop
 returns c =
@@ -147,14 +177,17 @@ sample-axes-spec =
     mul-m
     array-copy-out-m
     magnitude-requires
+    at-start-requires
+    mul-samples
+    array-set-from-samples
     add-i
     loop-less
     loop-again
     mul-plan
     element-copy-out-plan
     sample-in-plan-requires
-    mul-samples
-    array-set-from-samples
+    mul-samples-2
+    array-set-from-samples-2
     add-i-2
     loop-less-2
     loop-again-2

@@ -1,11 +1,13 @@
 -- `sample_move` meets its contract: the planner's answer, taken apart, leads to the refusal or to the plan's sample.
 use borrow.Author.Needs.{needs}
+use mathlib.Core.Path.{_≡_}
 use mir.Syntax.{w64}
+use mir.Val.{toZ, ofZ}
 use mir.Facts.{toZ-ofZ}
 use Rattle.planner.specs.Outcome.{intervalsOf}
 use Rattle.planner.specs.Inner.Facts.{PlanFacts}
 use Rattle.planner.proofs.PlannedFacts.{answer-facts}
-use Rattle.motion.proofs.EntryLaws.{not-planned, plan-refused, fourth-planned, within-range}
+use Rattle.motion.proofs.EntryLaws.{not-planned, plan-refused, fourth-planned, within-range, start-in-span}
 use Rattle.motion.proofs.SamplingLaws.{sample-refused, sample-past, sample-given}
 use Rattle.motion.proofs.sample_move.Statement.{statement}
 use Rattle.motion.proofs.sample_move.Tie as tie
@@ -36,18 +38,26 @@ samples-in-plan-requires c κs = within-range (plan (c .before))
 returns-2 : tie.Need-returns-2
 returns-2 c = sample-past (fourth-planned (plan (c .before .before .before))) (rw (c .before .samples-in-plan .ensures) at (c .if1 .taken))
 
+-- the start as the machine reads it back
+start-is : (c : tie.After-struct-told2) → let m = c .before .before .before .before .before .before .before .before .args .m in
+    toZ w64 (ofZ w64 (m .start)) ≡ m .start
+start-is c = toZ-ofZ {w = w64} (record { sfits = c .struct-told2 .given .1 .1 .1 .1 .1 .0 .1 })
+
 sample-in-plan-requires : tie.Need-sample-in-plan-requires
 sample-in-plan-requires c κs =
-    let d = c .before .before in
-    (within-range (plan (d .before .before)), rw (d .samples-in-plan .ensures) at (c .before .if1 .left))
+    let b = c .before .before in
+    let d = b .before in
+    let f = plan (d .before .before) in
+    (within-range f, (rw (start-is c) (start-in-span f), rw (d .samples-in-plan .ensures) at (b .if1 .left)))
 
 returns-3 : tie.Need-returns-3
 returns-3 c =
-    let d = c .before .before .before in
+    let b = c .before .before .before in
+    let d = b .before in
     let x = d .before .before .before .before .before .args .m .displacement in
-    let back = toZ-ofZ {w = w64} {z = x} (record { sfits = c .before .struct-told .given .0 .1 }) in
-    sample-given (fourth-planned (plan (d .before .before))) (rw (d .samples-in-plan .ensures) at (c .before .before .if1 .left))
-    (rw back at (c .sample-in-plan .ensures))
+    let back = toZ-ofZ {w = w64} {z = x} (record { sfits = c .before .struct-told2 .given .0 .1 }) in
+    sample-given (fourth-planned (plan (d .before .before))) (rw (d .samples-in-plan .ensures) at (b .if1 .left))
+    (rw (back, start-is (c .before)) at (c .sample-in-plan .ensures))
 
 pub sample-move-spec : {M : Type 1} → statement M
 sample-move-spec =

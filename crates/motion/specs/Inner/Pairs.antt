@@ -12,7 +12,7 @@ use Rattle.motion.specs.declared.segments.Durations.{Durations}
 use Rattle.motion.specs.declared.switched.Levels.{Levels}
 use Rattle.motion.specs.declared.reference.store.Paired.{Paired}
 use Rattle.motion.specs.declared.reference.store.SegmentPairs.{SegmentPairs}
-use Rattle.motion.specs.Inner.Steps.{rest}
+use Rattle.motion.specs.Inner.Steps.{restAt}
 use Rattle.motion.specs.Inner.Runs.{Writer}
 use Rattle.motion.specs.Inner.SegmentLists.{switchedList}
 use Rattle.motion.specs.Inner.OrderRuns.{orderRun}
@@ -57,5 +57,6 @@ module _ (third : Bool) where
   abbrev pub pairIn : Paired → orderRun third .Carried × ℤ
   pairIn s = (orderRun third .carried (s .state), s .before)
 
-  abbrev pub pairedRest : orderRun third .Carried × ℤ
-  pairedRest = (orderRun third .carried rest, pos 0)
+  -- At rest, with this first row.
+  abbrev pub pairedRest : (row : ℤ) → orderRun third .Carried × ℤ
+  pairedRest row = (orderRun third .carried (restAt row), pos 0)

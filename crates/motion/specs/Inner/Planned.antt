@@ -14,7 +14,7 @@ use Rattle.planner.specs.Third.{ThirdIntervals, N₃, P₃, thirdIntervalsIn}
 use Rattle.planner.specs.Inner.ThirdFacts.{ThirdOrdered}
 use Rattle.planner.specs.declared.Plan.{Plan}
 use Rattle.planner.specs.declared.ThirdPlan.{ThirdPlan}
-use Rattle.motion.specs.Sampling.{Values, valuesAt, thirdValuesAt, sampleOf, Rounding}
+use Rattle.motion.specs.Sampling.{Values, valuesAt, thirdValuesAt, fromStart, sampleOf, Rounding}
 use Rattle.motion.specs.Tables.{rowsFrom, tableOf}
 use Rattle.motion.specs.ForceRows.Machine.{Machine, machineAsRead}
 use Rattle.motion.specs.ForceRows.Doubled.{Doubled, doubledValues}
@@ -41,10 +41,10 @@ pub record ThirdWithinRange (t : ThirdIntervals) (D : ℕ) : Type 0 where
   pub samples : N₃ t ≤ mostSamples
   pub reach : D * P₃ t ≤ 2 ^ 60
 
--- The five values v, with a rounding of their position.
-pub record IsSampleOf (v : Values) (r : Sample) : Type 0 where
+-- The five values v from this start, with a rounding of their distance.
+pub record IsSampleOf (start : ℤ) (v : Values) (r : Sample) : Type 0 where
   pub rounding : Rounding (v .position)
-  pub sample-is : r ≡ sampleOf v rounding
+  pub sample-is : r ≡ sampleOf start v rounding
 
 -- What a snap and a state stand for.
 abbrev pub valuesIn : (snap : ℤ) → State → Values
@@ -59,9 +59,9 @@ module _ (X : ℤ) (t : Intervals) (D : ℕ) where
   abbrev pub directedPosition : ℕ → ℤ
   directedPosition k = valuesAt X t D k .position
 
-  -- The five values at sample k, and the position rounded.
-  abbrev pub IsSample : (k : ℕ) (r : Sample) → Type 0
-  IsSample k r = IsSampleOf (valuesAt X t D k) r
+  -- The five values at sample k from this start, and the distance rounded.
+  abbrev pub IsSample : (start : ℤ) (k : ℕ) (r : Sample) → Type 0
+  IsSample start k r = IsSampleOf start (valuesAt X t D k) r
 
   -- The doubled numbers of a plan's rows.
   abbrev pub plannedNumbers : ℕ → Doubled ℤ
@@ -86,8 +86,8 @@ PlanInRange x = WithinRange (intervalsIn x) (x .snap)
 abbrev pub samplesIn : Plan → ℕ
 samplesIn x = N (intervalsIn x)
 
-abbrev pub positionsIn : ℤ → Plan → ℕ → ℤ
-positionsIn X x = directedPosition X (intervalsIn x) (x .snap)
+abbrev pub fourthValuesIn : ℤ → Plan → ℕ → Values
+fourthValuesIn X x = valuesAt X (intervalsIn x) (x .snap)
 
 abbrev pub numbersIn : ℤ → Plan → ℕ → Doubled ℤ
 numbersIn X x = plannedNumbers X (intervalsIn x) (x .snap)
@@ -101,3 +101,7 @@ thirdSamplesIn x = N₃ (thirdIntervalsIn x)
 
 abbrev pub thirdValuesIn : ℤ → ThirdPlan → ℕ → Values
 thirdValuesIn X x = thirdValuesAt X (thirdIntervalsIn x) (x .jerk)
+
+-- The positions of these values from this start.
+abbrev pub positionsFrom : (start : ℤ) (values : ℕ → Values) → ℕ → ℤ
+positionsFrom start values k = fromStart start (values k .position)

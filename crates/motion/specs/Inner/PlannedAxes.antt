@@ -2,7 +2,8 @@
 use mathlib.Core.Bool.{true, false}
 use mathlib.Core.Path.{_≡_}
 use Prim.Native.Nat.{ℕ, _≤_}
-use Rattle.planner.specs.Outcome.{intervalsIn}
+use lib.IntN.{natAbs}
+use Rattle.planner.specs.Outcome.{mostCounts, intervalsIn}
 use Rattle.planner.specs.Axes.{atRest}
 use Rattle.planner.specs.declared.Move.{Move}
 use Rattle.planner.specs.declared.Plan.{Plan}
@@ -10,11 +11,12 @@ use Rattle.motion.specs.Axes.{restSample}
 use Rattle.motion.specs.Inner.Planned.{PlanInRange, samplesIn, IsSample}
 use Rattle.motion.specs.declared.Sample.{Sample}
 
--- A moving axis has a plan with a sample k.
+-- The start is in its span, and a moving axis has a plan with a sample k.
 pub record AxisInRange (m : Move) (x : Plan) (k : ℕ) : Type 0 where
+  pub start : natAbs (m .start) ≤ mostCounts
   pub plan : atRest m ≡ false → PlanInRange x
   pub sample : atRest m ≡ false → k ≤ samplesIn x
 
 pub record IsAxisSample (m : Move) (x : Plan) (k : ℕ) (r : Sample) : Type 0 where
-  pub moving : atRest m ≡ false → IsSample (m .displacement) (intervalsIn x) (x .snap) k r
-  pub resting : atRest m ≡ true → r ≡ restSample
+  pub moving : atRest m ≡ false → IsSample (m .displacement) (intervalsIn x) (x .snap) (m .start) k r
+  pub resting : atRest m ≡ true → r ≡ restSample (m .start)

@@ -15,7 +15,7 @@ use Rattle.motion.specs.declared.force.rows.RowState.{RowState}
 use Rattle.motion.specs.declared.force.doubled.Doubled as code
 use Rattle.motion.specs.declared.force.doubled.Earlier.{Earlier}
 use Rattle.motion.specs.declared.state.State.{State}
-use Rattle.motion.specs.Inner.Steps.{stepped, rest, StepFits}
+use Rattle.motion.specs.Inner.Steps.{stepped, restAt, StepFits}
 use Rattle.motion.specs.Inner.Runs.{Writer}
 
 -- The doubled numbers of a row are within 2^53, so their casts lose nothing.
@@ -79,7 +79,7 @@ abbrev pub noneEarlier : Earlier
 noneEarlier = record { snap1 = pos 0; snap2 = pos 0; jerk1 = pos 0; jerk2 = pos 0; acceleration1 = pos 0; velocity1 = pos 0 }
 
 abbrev pub firstRow : RowState
-firstRow = record { state = rest; earlier = noneEarlier; previous = record { u = plusZero; force = plusZero } }
+firstRow = record { state = restAt (pos 0); earlier = noneEarlier; previous = record { u = plusZero; force = plusZero } }
 
 abbrev pub advanced : RowState → (snap : ℤ) → Row → RowState
 advanced s snap row = record { state = stepped (s .state) snap; earlier = earlierNext (s .earlier) (s .state) snap; previous = row }

@@ -8,7 +8,7 @@ use crate::force::doubled::none_earlier;
 use crate::force::drive::Drive;
 use crate::force::feedforward::Feedforward;
 use crate::state::State;
-use crate::state::at_rest;
+use crate::state::at_position;
 use crate::state::step;
 ghost use mathlib.Core.Path.{_≡_};
 ghost use Rattle.motion.specs.Inner.Steps.{StepFits};
@@ -63,7 +63,7 @@ pub(crate) fn first_row() -> RowState
     ensures { λ r. ⌜ r ≡ firstRow ⌝ }
 {
     RowState {
-        state: at_rest(),
+        state: at_position(0),
         earlier: none_earlier(),
         previous: Row { u: 0.0, force: 0.0 },
     }

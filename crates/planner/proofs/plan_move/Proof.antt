@@ -1,6 +1,6 @@
 -- `plan_move` meets its contract: a plan that was found but for its D comes to the rule's, and a refusal of it is the rule's.
 use borrow.Author.Needs.{needs}
-use mathlib.Core.Path.{_≡_, sym, ap, _∙_}
+use mathlib.Core.Path.{_≡_, sym, ap, ap₂, _∙_}
 use mir.Syntax.{w64}
 use mir.Facts.{toZ-ofZ}
 use Rattle.planner.specs.Result.{given}
@@ -11,13 +11,16 @@ use Rattle.planner.proofs.plan_move.Statement.{statement}
 use Rattle.planner.proofs.plan_move.Tie as tie
 
 -- what was answered of the move
-answered : (c : tie.After-undivided-plan) → outcome (c .undivided-plan .result) ≡ undividedResult (c .before .before .args .m)
+answered : (c : tie.After-undivided-plan) → outcome (c .undivided-plan .result) ≡ undividedResult (c .before .before .before .args .m)
 answered c =
-    let m = c .before .before .args .m in
-    let back = toZ-ofZ {w = w64} {z = m .displacement} (record { sfits = c .before .struct-told .given .0 .1 }) in
-    c .undivided-plan .ensures ∙ ap (λ X. undividedResult (moveOf X (m .velocity) (m .acceleration) (m .jerk) (m .snap))) back
+    let m = c .before .before .before .args .m in
+    let g = c .before .struct-told2 .given in
+    let back = toZ-ofZ {w = w64} {z = m .displacement} (record { sfits = g .0 .1 }) in
+    let start-back = toZ-ofZ {w = w64} {z = m .start} (record { sfits = g .1 .1 .1 .1 .1 .0 .1 }) in
+    c .undivided-plan .ensures
+    ∙ ap₂ (λ X start. undividedResult (moveOf X (m .velocity) (m .acceleration) (m .jerk) (m .snap) start)) back start-back
 
-found : (c : tie.After-answer) → given (c .answer .given .0 .0) ≡ undividedResult (c .before .before .before .before .args .m)
+found : (c : tie.After-answer) → given (c .answer .given .0 .0) ≡ undividedResult (c .before .before .before .before .before .args .m)
 found c = ap outcome (sym (c .answer .given .1)) ∙ answered (c .before .before)
 
 undivided-plan-requires : tie.Need-undivided-plan-requires

@@ -1,4 +1,5 @@
 -- A plan whose D is still to be found: all of W is short. And what the private functions answer of it.
+use mathlib.Core.Bool.{Bool}
 use mathlib.Core.List.{List, [], _∷_, _++_}
 use Prim.Native.Nat.{ℕ, _≤_}
 use lib.Dec.{ltb}
@@ -18,9 +19,9 @@ use Rattle.planner.specs.declared.figures.FiguresAnswer.the-variants.{In
 abbrev pub undivided : (W : ℕ) (t : Intervals) → Plan
 undivided W t = record { a = t .a; b = t .b; c = t .c; e = t .e; snap = 0; shortfall = W }
 
--- The move of five numbers.
-abbrev pub moveOf : (X : ℤ) (V₀ A₀ J₀ S₀ : ℕ) → Move
-moveOf X V₀ A₀ J₀ S₀ = record { displacement = X; velocity = V₀; acceleration = A₀; jerk = J₀; snap = S₀ }
+-- The move of six numbers.
+abbrev pub moveOf : (X : ℤ) (V₀ A₀ J₀ S₀ : ℕ) (start : ℤ) → Move
+moveOf X V₀ A₀ J₀ S₀ start = record { displacement = X; velocity = V₀; acceleration = A₀; jerk = J₀; snap = S₀; start = start }
 
 -- No product of its intervals leaves 64 bits.
 pub record Divisible (x : Plan) : Type 0 where
@@ -30,11 +31,11 @@ pub record Divisible (x : Plan) : Type 0 where
 unfoldable pub undividedResult : Move → Result ℕ Plan
 undividedResult m = firstRefusal (checks m) (given (undivided (distanceOf m) (intervalsOf m)))
 
--- What is left of it where refusals 1 to 5 do not apply.
-unfoldable pub undividedWithin : (W V₀ A₀ J₀ S₀ : ℕ) → Result ℕ Plan
-undividedWithin W V₀ A₀ J₀ S₀ =
+-- What is left of it where refusals 1 to 5 do not apply; `outside` tells whether 14 does.
+unfoldable pub undividedWithin : (W V₀ A₀ J₀ S₀ : ℕ) (outside : Bool) → Result ℕ Plan
+undividedWithin W V₀ A₀ J₀ S₀ outside =
     let t = intervalsBy W V₀ A₀ J₀ S₀ in
-    firstRefusal (check 6 (outOfRange S₀) ∷ check 7 (ltb mostSamples (N t)) ∷ []) (given (undivided W t))
+    firstRefusal (check 6 (outOfRange S₀) ∷ check 14 outside ∷ check 7 (ltb mostSamples (N t)) ∷ []) (given (undivided W t))
 
 -- The figures that both orders read, and the distance where they are in range: refusals 1 to 5.
 abbrev pub figureChecks : (X : ℤ) (V₀ A₀ J₀ : ℕ) → List (Check ℕ)

@@ -5,12 +5,14 @@ use crate::MOST_AXES;
 use crate::Move;
 use crate::PlanAnswer;
 use crate::REST;
+use crate::Refusal;
 use crate::axes::rest::rests;
 use crate::bounds::BoundsAnswer;
 use crate::bounds::check_bounds;
 use crate::division::samples_in;
 use crate::in_range::undivided_plan;
 use crate::min_max::larger;
+use crate::span::ends_outside;
 ghost use mathlib.Core.Path.{_≡_};
 ghost use Prim.Native.Nat.{_≤_};
 ghost use lib.ListN.{take};
@@ -18,17 +20,30 @@ ghost use Rattle.planner.specs.Axes.{mostAxes};
 ghost use Rattle.planner.specs.Outcome.{outcome};
 ghost use Rattle.planner.specs.Inner.AxisAnswers.{axisResult, FindsEach};
 
-// Zeros at rest, where refusals 3 to 6 alone are asked.
+// Zeros at rest, where refusals 3 to 6 and 14 alone are asked.
 fn undivided_axis(m: Move) -> PlanAnswer
     ensures { λ r. ⌜ outcome r ≡ axisResult m ⌝ }
 {
     if !rests(m) {
-        return undivided_plan(m.displacement, m.velocity, m.acceleration, m.jerk, m.snap);
+        return undivided_plan(
+            m.displacement,
+            m.velocity,
+            m.acceleration,
+            m.jerk,
+            m.snap,
+            m.start,
+        );
     }
     let bounds = check_bounds(m.velocity, m.acceleration, m.jerk, m.snap);
     match bounds {
         BoundsAnswer::Refused(refusal) => PlanAnswer::Refused(refusal),
-        BoundsAnswer::InRange => PlanAnswer::Planned(REST),
+        BoundsAnswer::InRange => {
+            if ends_outside(m.displacement, m.start) {
+                PlanAnswer::Refused(Refusal::StartOrEndRange)
+            } else {
+                PlanAnswer::Planned(REST)
+            }
+        }
     }
 }
 

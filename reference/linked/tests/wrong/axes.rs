@@ -2,90 +2,71 @@ use super::assert_found;
 use linked::differential::{Entries, Proved};
 use linked::library::{Axes, AxesPlanResult, AxesSampleResult};
 
-/// Places counted from 0.
-struct PlaceBefore;
+/// What becomes of right plans, and of right samples.
+struct Plans(fn(Axes, &mut AxesPlanResult));
+struct Samples(fn(Axes, u64, &mut AxesSampleResult));
 
-impl Entries for PlaceBefore {
+impl Entries for Plans {
     fn plan_axes(&self, axes: Axes) -> AxesPlanResult {
         let mut result = Proved.plan_axes(axes);
-        result.place = result.place.saturating_sub(1);
+        self.0(axes, &mut result);
         result
     }
 }
 
+impl Entries for Samples {
+    fn sample_axes(&self, axes: Axes, sample: u64) -> AxesSampleResult {
+        let mut result = Proved.sample_axes(axes, sample);
+        self.0(axes, sample, &mut result);
+        result
+    }
+}
+
+/// Places counted from 0.
 #[test]
 fn a_place_that_is_one_less() {
-    assert_found(&PlaceBefore, "axes", "from field 1 on");
+    let wrong = Plans(|_, result| result.place = result.place.saturating_sub(1));
+    assert_found(&wrong, "axes", "from field 1 on");
 }
 
 /// The largest N of all eight moves, where none of them is refused.
-struct LaterMoves;
-
-impl Entries for LaterMoves {
-    fn plan_axes(&self, axes: Axes) -> AxesPlanResult {
-        let mut result = Proved.plan_axes(axes);
+#[test]
+fn a_common_duration_of_later_moves() {
+    let wrong = Plans(|axes, result| {
         let all = Proved.plan_axes(Axes { count: 8, ..axes });
         if result.refusal == 0 {
             result.samples = result.samples.max(all.samples);
         }
-        result
-    }
-}
-
-#[test]
-fn a_common_duration_of_later_moves() {
-    assert_found(&LaterMoves, "axes", "refusal 0, from field 2 on");
+    });
+    assert_found(&wrong, "axes", "refusal 0, from field 2 on");
 }
 
 /// A count of 1 in the last place, where there is no axis.
-struct UnusedPlace;
-
-impl Entries for UnusedPlace {
-    fn sample_axes(&self, axes: Axes, sample: u64) -> AxesSampleResult {
-        let mut result = Proved.sample_axes(axes, sample);
-        result.values[7].count += i64::from(axes.count < 8);
-        result
-    }
-}
-
 #[test]
 fn an_unused_place_that_is_not_0() {
-    assert_found(&UnusedPlace, "axes_sample", "from field 56 on [1, 0]");
+    let wrong = Samples(|axes, _, result| result.values[7].count += i64::from(axes.count < 8));
+    assert_found(&wrong, "axes_sample", "from field 56 on [1, 0]");
 }
 
-/// What division towards zero leaves of a position, not what its count does.
-struct FractionForRemainder;
-
-impl Entries for FractionForRemainder {
-    fn sample_axes(&self, axes: Axes, sample: u64) -> AxesSampleResult {
-        let mut result = Proved.sample_axes(axes, sample);
-        for at in &mut result.values {
-            at.remainder = at.position % (1 << 40);
-        }
-        result
-    }
-}
-
+/// At rest an axis is not asked for its start.
 #[test]
-fn a_remainder_of_division() {
-    assert_found(&FractionForRemainder, "axes_sample", "from field 8 on");
+fn a_rest_at_zero() {
+    let wrong = Samples(|mut axes, k, result| {
+        let at_rest = axes.moves.iter_mut().filter(|axis| axis.displacement == 0);
+        at_rest.for_each(|axis| axis.start = 0);
+        *result = Proved.sample_axes(axes, k);
+    });
+    assert_found(&wrong, "axes_sample", "library: refusal 0");
 }
 
 /// 9 after the end that the first axis has by itself.
-struct OwnEnd;
-
-impl Entries for OwnEnd {
-    fn sample_axes(&self, axes: Axes, sample: u64) -> AxesSampleResult {
-        let own = Proved.plan_move(axes.moves[0]);
-        let mut result = Proved.sample_axes(axes, sample);
-        if result.refusal == 0 && own.refusal == 0 && sample > own.samples {
-            result.refusal = 9;
-        }
-        result
-    }
-}
-
 #[test]
 fn an_end_that_is_not_the_common_one() {
-    assert_found(&OwnEnd, "axes_sample", "library: refusal 9");
+    let wrong = Samples(|axes, k, result| {
+        let own = Proved.plan_move(axes.moves[0]);
+        if result.refusal == 0 && own.refusal == 0 && k > own.samples {
+            result.refusal = 9;
+        }
+    });
+    assert_found(&wrong, "axes_sample", "library: refusal 9");
 }

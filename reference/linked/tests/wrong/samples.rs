@@ -1,6 +1,104 @@
 use super::assert_found;
 use linked::differential::{Entries, Proved};
-use linked::library::{Move, SampleResult};
+use linked::library::{Axes, AxesSampleResult, Move, SampleResult};
+use reference::profile::Sample;
+
+const ALL: [&str; 3] = ["sample", "third_sample", "axes_sample"];
+
+/// What becomes of right values at a sample, of a move in either order or of each axis.
+struct Samples(fn(u64, &mut Sample));
+
+impl Entries for Samples {
+    fn sample_move(&self, motion: Move, sample: u64) -> SampleResult {
+        let mut result = Proved.sample_move(motion, sample);
+        self.0(sample, &mut result.sample);
+        result
+    }
+
+    fn sample_third(&self, motion: Move, sample: u64) -> SampleResult {
+        let mut result = Proved.sample_third(motion, sample);
+        self.0(sample, &mut result.sample);
+        result
+    }
+
+    fn sample_axes(&self, axes: Axes, sample: u64) -> AxesSampleResult {
+        let mut result = Proved.sample_axes(axes, sample);
+        result.values.iter_mut().for_each(|at| self.0(sample, at));
+        result
+    }
+}
+
+/// The fault is found in each of these kinds.
+fn assert_in(kinds: &[&str], words: &str, spoil: fn(u64, &mut Sample)) {
+    for kind in kinds {
+        assert_found(&Samples(spoil), kind, words);
+    }
+}
+
+/// The other count at a half, with its remainder.
+fn other_way(at: &mut Sample) {
+    at.count += at.remainder.signum();
+    at.remainder = -at.remainder;
+}
+
+#[test]
+fn a_half_count_towards_the_start() {
+    assert_in(&ALL, "refusal 0, from field", |_, at| {
+        if at.remainder.abs() == 1 << 39 {
+            other_way(at);
+        }
+    });
+}
+
+/// It is the start from which halves go away.
+#[test]
+fn a_half_count_away_from_the_rails_zero() {
+    assert_in(&ALL, "refusal 0, from field", |_, at| {
+        if at.remainder.abs() == 1 << 39 && at.remainder.signum() == at.position.signum() {
+            other_way(at);
+        }
+    });
+}
+
+/// At a half the count goes away from the start, and the remainder is the other count's.
+#[test]
+fn a_remainder_towards_the_start_at_a_half() {
+    assert_in(&ALL, "refusal 0, from field", |_, at| {
+        if at.remainder.abs() == 1 << 39 {
+            at.remainder = -at.remainder;
+        }
+    });
+}
+
+#[test]
+fn a_remainder_without_its_sign() {
+    assert_in(&ALL, "refusal 0, from field", |_, at| {
+        at.remainder = at.remainder.abs();
+    });
+}
+
+/// What division towards zero leaves of a position, not what its count does.
+#[test]
+fn a_remainder_of_division() {
+    assert_in(&ALL, "refusal 0, from field", |_, at| {
+        at.remainder = at.position % (1 << 40);
+    });
+}
+
+#[test]
+fn a_snap_that_is_not_0() {
+    let words = "refusal 0, from field 1 on";
+    assert_in(&["third_sample"], words, |_, at| at.snap = at.jerk);
+}
+
+/// As in fourth order.
+#[test]
+fn a_jerk_of_0_at_sample_0() {
+    let words = "from field 2 on [0, 0, 0,";
+    assert_in(&["third_sample"], words, |k, at| {
+        at.jerk *= i64::from(k > 0)
+    });
+}
 
 /// At rest after the end, where a sample is refused.
 struct NoEnd;
@@ -18,58 +116,4 @@ impl Entries for NoEnd {
 #[test]
 fn a_sample_after_the_end() {
     assert_found(&NoEnd, "sample", "reference: refusal 9");
-}
-
-/// Halves rounded towards zero.
-struct HalfTowardsZero;
-
-impl Entries for HalfTowardsZero {
-    fn sample_move(&self, motion: Move, sample: u64) -> SampleResult {
-        let mut result = Proved.sample_move(motion, sample);
-        let position = result.sample.position;
-        if position.unsigned_abs() % (1 << 40) == 1 << 39 {
-            result.sample.count -= position.signum();
-            result.sample.remainder = -result.sample.remainder;
-        }
-        result
-    }
-}
-
-#[test]
-fn a_half_count_towards_zero() {
-    assert_found(&HalfTowardsZero, "sample", "from field 6 on");
-}
-
-/// At a half the count goes away from zero, and the remainder is the other count's.
-struct RemainderTowardsZero;
-
-impl Entries for RemainderTowardsZero {
-    fn sample_move(&self, motion: Move, sample: u64) -> SampleResult {
-        let mut result = Proved.sample_move(motion, sample);
-        if result.sample.remainder.abs() == 1 << 39 {
-            result.sample.remainder = -result.sample.remainder;
-        }
-        result
-    }
-}
-
-#[test]
-fn a_remainder_towards_zero_at_a_half() {
-    assert_found(&RemainderTowardsZero, "sample", "from field 7 on");
-}
-
-/// The size of the remainder.
-struct RemainderWithoutSign;
-
-impl Entries for RemainderWithoutSign {
-    fn sample_move(&self, motion: Move, sample: u64) -> SampleResult {
-        let mut result = Proved.sample_move(motion, sample);
-        result.sample.remainder = result.sample.remainder.abs();
-        result
-    }
-}
-
-#[test]
-fn a_remainder_without_its_sign() {
-    assert_found(&RemainderWithoutSign, "sample", "from field 7 on");
 }

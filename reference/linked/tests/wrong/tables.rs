@@ -127,6 +127,26 @@ fn a_reference_row_that_is_half_a_sample_early() {
     });
 }
 
+/// The position before sample 0 is taken for 0, so that row 0 has the start once.
+#[test]
+fn a_start_that_is_added_once() {
+    assert_in(&REFERENCE, "library: place 0 holds", |_, result, table| {
+        if result.rows > 0 {
+            table.places()[0] /= 2;
+        }
+    });
+}
+
+/// Every row is read from the start: row 0 is the start, or twice.
+#[test]
+fn a_start_that_is_left_out() {
+    assert_in(&ALL, "library: place 0 holds 0", |_, result, table| {
+        let rows = &mut table.places()[..result.rows as usize];
+        let start = rows.first().copied().unwrap_or(0);
+        rows.iter_mut().for_each(|row| *row -= start);
+    });
+}
+
 /// The position after N is taken for 0, so that the last row is half of it.
 #[test]
 fn a_last_position_that_is_not_held() {

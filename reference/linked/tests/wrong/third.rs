@@ -1,23 +1,14 @@
 use super::assert_found;
 use linked::differential::{Entries, Proved};
-use linked::library::{Move, SampleResult, ThirdPlanResult};
+use linked::library::{Move, ThirdPlanResult};
 
-/// What becomes of a right plan or sample; the tables are with those of fourth order.
+/// What becomes of a right plan; samples and tables are with those of fourth order.
 struct Plans(fn(Move, &mut ThirdPlanResult));
-struct Samples(fn(u64, &mut SampleResult));
 
 impl Entries for Plans {
     fn plan_third(&self, motion: Move) -> ThirdPlanResult {
         let mut result = Proved.plan_third(motion);
         self.0(motion, &mut result);
-        result
-    }
-}
-
-impl Entries for Samples {
-    fn sample_third(&self, motion: Move, sample: u64) -> SampleResult {
-        let mut result = Proved.sample_third(motion, sample);
-        self.0(sample, &mut result);
         result
     }
 }
@@ -39,24 +30,11 @@ fn a_snap_bound_that_is_read() {
 }
 
 #[test]
-fn a_snap_that_is_not_0() {
-    let wrong = Samples(|_, result| result.sample.snap = result.sample.jerk);
-    assert_found(&wrong, "third_sample", "refusal 0, from field 1 on");
-}
-
-/// As in fourth order.
-#[test]
-fn a_jerk_of_0_at_sample_0() {
-    let wrong = Samples(|k, result| result.sample.jerk *= i64::from(k > 0));
-    assert_found(&wrong, "third_sample", "from field 2 on [0, 0, 0, 0]");
-}
-
-#[test]
-fn a_remainder_towards_zero_at_a_half() {
-    let wrong = Samples(|_, result| {
-        if result.sample.remainder.abs() == 1 << 39 {
-            result.sample.remainder = -result.sample.remainder;
+fn refusal_7_before_14() {
+    let wrong = Plans(|motion, result| {
+        if result.refusal == 14 && Proved.plan_third(motion.starting_at(0)).refusal == 7 {
+            result.refusal = 7;
         }
     });
-    assert_found(&wrong, "third_sample", "from field 7 on");
+    assert_found(&wrong, "third_plan", "reference: refusal 14");
 }

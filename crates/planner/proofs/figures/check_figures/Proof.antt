@@ -5,7 +5,7 @@ use Prim.Native.Nat.{ℕ, _*_, _≤_}
 use native.Mathlib.Omega.{arith}
 use mir.Syntax.{w64}
 use mir.Facts.{toZ-ofZ}
-use lib.IntN.{natAbs}
+use lib.IntN.{pos, natAbs}
 use Rattle.planner.specs.Quantities.{distance, unitsPerCount}
 use Rattle.planner.specs.Result.{Result, given}
 use Rattle.planner.specs.Outcome.{mostCounts, boundChecksToJerk}
@@ -15,9 +15,9 @@ use Rattle.planner.proofs.FiguresChecks.{no-displacement, displacement-
 use Rattle.planner.proofs.figures.check_figures.Statement.{statement}
 use Rattle.planner.proofs.figures.check_figures.Tie as tie
 
--- a move of the arguments: its bound on the snap is not asked
+-- a move of the arguments: its bound on the snap and its start are not asked
 sent : tie.Start → Move
-sent c = let a = c .args in moveOf (a .x) (a .v) (a .acc) (a .j) 0
+sent c = let a = c .args in moveOf (a .x) (a .v) (a .acc) (a .j) 0 (pos 0)
 
 -- the size that was found is the displacement's
 size : (c : tie.After-magnitude) → c .magnitude .result ≡ natAbs (c .before .args .x)

@@ -7,13 +7,15 @@ use reference::profile::TableAnswer;
 #[inline(never)]
 pub fn positions(motion: &Move, table: &mut [i64]) -> TableAnswer {
     let plan = planned(plan_narrow(motion), motion, table.len(), 1);
-    filled(plan, table, |position| position)
+    filled(plan, motion.start << 40, table, |position| position)
 }
 
 /// By the answer of either planner. Each row adds the position before.
 pub fn references(answer: Answer, motion: &Move, table: &mut [i64]) -> TableAnswer {
-    let mut before = 0;
-    filled(planned(answer, motion, table.len(), 2), table, |position| {
+    let start = motion.start << 40;
+    let mut before = start;
+    let plan = planned(answer, motion, table.len(), 2);
+    filled(plan, start, table, |position| {
         let row = position + before;
         before = position;
         row
@@ -22,6 +24,7 @@ pub fn references(answer: Answer, motion: &Move, table: &mut [i64]) -> TableAnsw
 
 fn filled(
     plan: Result<Plan, u8>,
+    start: i64,
     table: &mut [i64],
     mut row: impl FnMut(i64) -> i64,
 ) -> TableAnswer {
@@ -29,7 +32,7 @@ fn filled(
         Ok(plan) => plan,
         Err(number) => return TableAnswer::Refused(number),
     };
-    let (mut jerk, mut acceleration, mut velocity, mut position) = (0, 0, 0, 0);
+    let (mut jerk, mut acceleration, mut velocity, mut position) = (0, 0, 0, start);
     let mut rest = &mut table[..plan.rows as usize];
     for segment in &plan.segments {
         let (places, after) = rest.split_at_mut(segment.samples);

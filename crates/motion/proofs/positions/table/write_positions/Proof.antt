@@ -6,6 +6,7 @@ use Prim.Native.Nat.{ℕ, _+_}
 use native.Mathlib.Omega.{arith}
 use mir.Syntax.{w64}
 use mir.Facts.{toZ-ofZ}
+use Rattle.motion.proofs.StartLaws.{start-passed}
 use Rattle.motion.proofs.FillLaws.{short, written}
 use Rattle.motion.proofs.positions.table.write_positions.Statement.{statement}
 use Rattle.motion.proofs.positions.table.write_positions.Tie as tie
@@ -20,7 +21,9 @@ returns : tie.Need-returns
 returns c = short [] (omega (arith, c .if1 .taken, c .before .samples-in-plan .ensures))
 
 fill-table-requires : tie.Need-fill-table-requires
-fill-table-requires c κs = search needs
+fill-table-requires c κs =
+    let d = c .before .before .before in
+    (d .pre .0, (omega (arith, start-passed (d .args .start) (d .fits .start) (d .pre .1)), search needs))
 
 same-length : tie.Need-same-length
 same-length c = search needs
@@ -28,9 +31,12 @@ same-length c = search needs
 returns-2 : tie.Need-returns-2
 returns-2 c =
     let d = c .before .before .before in
-    let back = toZ-ofZ {w = w64} {z = d .before .before .args .displacement} (d .before .before .fits .displacement) in
+    let s = d .before .before in
+    let back = toZ-ofZ {w = w64} {z = s .args .displacement} (s .fits .displacement) in
+    let start-is = toZ-ofZ {w = w64} {z = s .args .start} (s .fits .start) in
     let rows = ap (λ (n : ℕ). n + 1) (d .before .samples-in-plan .ensures) in
-    written [] rows (rw (d .before .samples-in-plan .ensures) at (d .if1 .left)) tt (rw back at (c .before .fill-table .ensures))
+    written [] rows (rw (d .before .samples-in-plan .ensures) at (d .if1 .left)) tt
+    (rw (back, start-is) at (c .before .fill-table .ensures))
 
 pub write-positions-spec : {M : Type 1} → statement M
 write-positions-spec =

@@ -2,6 +2,7 @@
 use Prim.Native.Nat.{_-_, _<_}
 use native.Mathlib.Omega.{arith}
 use mir.Syntax.{w64}
+use mir.Val.{toZ, ofZ}
 use mir.Facts.{toZ-ofZ}
 use Rattle.motion.specs.Inner.Runs.{Ran}
 use Rattle.motion.specs.Inner.OrderRuns.{orderRun}
@@ -14,20 +15,23 @@ use Rattle.motion.proofs.reference.table.fill_pairs.Statement.{statemen
 use Rattle.motion.proofs.reference.table.fill_pairs.Tie as tie
 
 abbrev Inv-loop : tie.InvT-loop
-Inv-loop table₀ third durations levels end current₀ i₀ table current i =
-    SegmentsLeft (pairRun third) (orderRun third .segments durations) levels (pairedRest third) table₀ i (pairIn third current) table
+Inv-loop table₀ third first durations levels end current₀ i₀ table current i =
+    SegmentsLeft (pairRun third) (orderRun third .segments durations) levels (pairedRest third (toZ w64 first)) table₀ i
+    (pairIn third current) table
 
 abbrev μ-loop : tie.MeasureT-loop
-μ-loop table₀ third durations levels end current₀ i₀ table current i = end - i
+μ-loop table₀ third first durations levels end current₀ i₀ table current i = end - i
 
 segment-count-requires : tie.Need-segment-count-requires Inv-loop μ-loop
 segment-count-requires c κs = tt
 
-at-rest-requires : tie.Need-at-rest-requires Inv-loop μ-loop
-at-rest-requires c κs = tt
+at-position-requires : tie.Need-at-position-requires Inv-loop μ-loop
+at-position-requires c κs = tt
 
 loop-holds : tie.Need-loop-holds Inv-loop μ-loop
-loop-holds c = rw (c .at-rest .ensures) (record { number = omega arith; remaining = all-left (c .before .before .pre) })
+loop-holds c =
+    let s = c .before .before in
+    rw (c .at-position .ensures, toZ-ofZ (s .fits .first)) (record { number = omega arith; remaining = all-left (s .pre) })
 
 -- a segment comes next
 number : (c : tie.In-loop Inv-loop μ-loop) → c .before .loop .i < orderRun (c .before .before .before .before .args .third) .segmentCount
@@ -69,8 +73,8 @@ loop-again c =
 ran :
     (c : tie.After-loop Inv-loop μ-loop)
     → let a = c .before .before .before .before .args in
-    Ran (pairRun (a .third)) (listIn (a .third) (a .durations) (a .levels)) (pairedRest (a .third)) (a .table .now) (c .before .loop .table)
-    (pairIn (a .third) (c .before .loop .current))
+    Ran (pairRun (a .third)) (listIn (a .third) (a .durations) (a .levels)) (pairedRest (a .third) (toZ w64 (ofZ w64 (a .first))))
+    (a .table .now) (c .before .loop .table) (pairIn (a .third) (c .before .loop .current))
 ran c =
     let a = c .before .before .before .before .args in
     all-ran (c .before .loop .inv)
@@ -80,10 +84,10 @@ same-length : tie.Need-same-length Inv-loop μ-loop
 same-length c = ran-length (ran c)
 
 returns : tie.Need-returns Inv-loop μ-loop
-returns c = record { end = _; ran = ran c }
+returns c = record { end = _; ran = rw (toZ-ofZ (c .before .before .before .before .fits .first)) at (ran c) }
 
 pub fill-pairs-spec : {M : Type 1} → statement M
 fill-pairs-spec =
     tie.close
-    (tie.spec Inv-loop μ-loop segment-count-requires at-rest-requires loop-holds segment-at-requires store-pairs-requires add-i loop-less
-    loop-again same-length returns)
+    (tie.spec Inv-loop μ-loop segment-count-requires at-position-requires loop-holds segment-at-requires store-pairs-requires add-i
+    loop-less loop-again same-length returns)
