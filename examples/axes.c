@@ -45,9 +45,9 @@ int main(void) {
   nitswolan_axes axes = {
     AXES,
     {
-      {32, 4 * count, 2 * count, count, count},
-      {-8, 2 * count, count, count, count},
-      {3, count / 2, count / 2, count / 2, count / 2},
+      {32, 4 * count, 2 * count, count, count, 0},
+      {-8, 2 * count, count, count, count, 0},
+      {3, count / 2, count / 2, count / 2, count / 2, 0},
     },
   };
   const nitswolan_axes_plan_result planned = nitswolan_plan_axes(axes);

@@ -1,4 +1,5 @@
-/* Plans a move, fills a position table, and plays it to the screen sample by sample; then shows two refusals. */
+/* Plans a move, fills a position table, and plays it to the screen sample by sample; hands over to the next move and from that to another,
+ * each of which begins at the count where the one before it ended; then shows two refusals. */
 #include "nitswolan.h"
 
 #include <inttypes.h>
@@ -54,10 +55,28 @@ static void play(nitswolan_move move, const int64_t *table, uint64_t rows) {
   }
 }
 
+/* The next move begins at the end count of this one, so the counts join. The positions join but for the shortfall of this one. */
+static int hand_over(nitswolan_move *move, int64_t displacement) {
+  const nitswolan_plan_result plan = nitswolan_plan_move(*move);
+  const nitswolan_sample_result last = nitswolan_sample_move(*move, plan.samples);
+  nitswolan_sample_result first;
+
+  move->start += move->displacement;
+  move->displacement = displacement;
+  if (!print_plan(*move)) {
+    return 0;
+  }
+  first = nitswolan_sample_move(*move, 0);
+  printf("hand-over: count %" PRId64 " to %" PRId64 ", ", last.count, first.count);
+  printf("%" PRId64 " units from position to position, shortfall %" PRIu64 "\n", first.position - last.position, plan.shortfall);
+  return 1;
+}
+
 int main(void) {
   static int64_t table[NITSWOLAN_MOST_POSITIONS];
   const uint64_t count = (uint64_t)NITSWOLAN_UNITS_PER_COUNT;
-  nitswolan_move move = {8, 2 * count, count, count, count};
+  nitswolan_move move = {8, 2 * count, count, count, count, 0};
+  nitswolan_move next;
   nitswolan_table_result filled;
 
   if (!print_plan(move)) {
@@ -69,6 +88,10 @@ int main(void) {
     return 1;
   }
   play(move, table, filled.rows);
+  next = move;
+  if (!hand_over(&next, 9) || !hand_over(&next, -9)) {
+    return 1;
+  }
 
   /* Eight places are one too few for samples 0 to 8: nothing is written. */
   filled = nitswolan_fill_positions(move, table, 8);

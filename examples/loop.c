@@ -19,7 +19,7 @@ int main(void) {
   static int64_t reference[NITSWOLAN_MOST_REFERENCE];
   static int64_t positions[NITSWOLAN_MOST_POSITIONS];
   const uint64_t count = (uint64_t)NITSWOLAN_UNITS_PER_COUNT;
-  const nitswolan_move move = {16, 2 * count, count, count, count};
+  const nitswolan_move move = {16, 2 * count, count, count, count, 0};
   const uint64_t samples = nitswolan_plan_move(move).samples;
   nitswolan_table_result filled = nitswolan_fill_reference(move, reference, NITSWOLAN_MOST_REFERENCE);
 

@@ -34,7 +34,7 @@ static void play(nitswolan_move move, const int64_t *table, uint64_t rows) {
 int main(void) {
   static int64_t table[NITSWOLAN_MOST_POSITIONS];
   const uint64_t count = (uint64_t)NITSWOLAN_UNITS_PER_COUNT;
-  nitswolan_move move = {10, 2 * count, count, count, count};
+  nitswolan_move move = {10, 2 * count, count, count, count, 0};
   nitswolan_table_result filled;
 
   if (!print_plan("third order", move)) {

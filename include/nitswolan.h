@@ -21,8 +21,8 @@
  * sample N on. In third order a move may take another number than in fourth.
  *
  * Positions and counts are read from the rail's zero: a move begins at its start count and ends at the start plus the displacement. All
- * else (plans, velocity, acceleration, jerk, snap and forces) is the same from every start. To go on where a move ended, send its end count
- * as the start of the next: then the counts join, and the positions join but for the shortfall of the first move.
+ * else (plans, velocity, acceleration, jerk, snap and forces) is the same from every start that is not refused. To go on where a move
+ * ended, send its end count as the start of the next: then the counts join, and the positions join but for the shortfall of the first move.
  */
 #ifndef NITSWOLAN_H
 #define NITSWOLAN_H
@@ -91,9 +91,12 @@ enum {
  * squared, cubed and to the fourth; and the start in counts from the rail's zero. The third order does not read `snap`, which may be any
  * number there.
  *
- * `start` is newer than the other fields. Braces that list the five numbers before it make it 0 (with -Wextra gcc warns of them), and so do
- * designated initialisers that do not name it: such a program means what it meant, and has only to be built again with this header. One
- * that sets the fields one by one begins with `nitswolan_move move = {0};`, or else it sends a start that it never wrote. */
+ * `start` is newer than the other fields. A move's own braces that list the five numbers before it make it 0 (with -Wextra gcc warns of
+ * them), and so do designated initialisers that do not name it: such a program means what it meant, and has only to be built again with
+ * this header. Each move needs braces of its own: in a flat list of several moves, or of a set, every number after the first move's five
+ * now falls into another field. A program that sets the fields one by one begins with `nitswolan_move move = {0};`, or else it sends a
+ * start that it never wrote. An object file that was built with the header from before `start` must not be linked with this library until
+ * it is built again: nothing would tell, and the start would be whatever stood there. */
 typedef struct {
   int64_t displacement;
   uint64_t velocity;

@@ -88,10 +88,8 @@ pub const KINDS: [Kind; 12] = [
         calls: 20_000,
         stored: 40,
         fixed: || {
-            let asked = axes_edges::samples().into_iter();
-            asked
-                .map(|(axes, k, _)| Request::SampleAxes(axes, k))
-                .collect()
+            let sent = |(axes, k, _)| Request::SampleAxes(axes, k);
+            axes_edges::samples().into_iter().map(sent).collect()
         },
         draw: |random| {
             let (axes, k) = samples::of_axes(random);

@@ -150,11 +150,8 @@ fn axes_fields<T: Copy + Default>(
 /// N, and a, b, c, e, D and shortfall of each place.
 fn set_fields(set: AxesPlan) -> Vec<i128> {
     let plans = set.plans.iter().flat_map(Plan::numbers);
-    [set.samples]
-        .into_iter()
-        .chain(plans)
-        .map(i128::from)
-        .collect()
+    let all = [set.samples].into_iter().chain(plans);
+    all.map(i128::from).collect()
 }
 
 /// Snap, jerk, acceleration, velocity, position, count and remainder of each place.

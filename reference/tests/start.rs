@@ -2,12 +2,19 @@
 
 use reference::force::Machine;
 use reference::planner::Order::{self, Fourth, Third};
-use reference::planner::{plan_axes, Axes, Move, MOST_AXES};
+use reference::planner::{plan, plan_axes, Axes, Move, MOST_AXES};
 use reference::profile::{reference_table, sample, sample_axes, Sample, SampleAnswer};
 use reference::request::Request;
 
 const G: u64 = 1 << 40;
 const MOST: i64 = 1_048_576;
+
+fn at(order: Order, motion: &Move, k: u64) -> Sample {
+    match sample(order, motion, k) {
+        SampleAnswer::Sampled(at) => at,
+        refused => panic!("{motion:?} {k}: {refused:?}"),
+    }
+}
 
 /// The positions, in halves of a count, and the counts of a move, and of its mirror; the
 /// other values are those from start 0.
@@ -15,10 +22,7 @@ fn assert_worked(order: Order, motion: Move, halves: &[i64], counts: &[i64]) {
     for (k, sign) in (0..halves.len()).flat_map(|k| [(k, 1), (k, -1)]) {
         let from_0 = Move::new(motion.displacement * sign, motion.bounds());
         let motions = [from_0.starting_at(motion.start * sign), from_0];
-        let samples = motions.map(|motion| sample(order, &motion, k as u64));
-        let [SampleAnswer::Sampled(at), SampleAnswer::Sampled(other)] = samples else {
-            panic!("sample {k} is refused");
-        };
+        let [at, other] = motions.map(|motion| at(order, &motion, k as u64));
         assert_eq!(at.values()[..4], other.values()[..4]);
         let left = halves[k] - 2 * counts[k];
         let worked = [halves[k] << 39, counts[k], left << 39];
@@ -60,6 +64,23 @@ fn reference_rows_from_a_start() {
     }
 }
 
+/// Two moves in sequence: the counts join, and the positions but for the shortfall of the
+/// first. W is 2^40; P is 10 and 5, then 8 and 2, in fourth and in third order.
+#[test]
+fn one_move_hands_over_to_the_next() {
+    let v = 219_902_325_556;
+    for (order, v, shortfall) in [(Fourth, v, 6), (Third, v, 1), (Fourth, G, 0), (Third, G, 0)] {
+        for x in [1, -1] {
+            let first = Move::new(x, [v, G, G, G]).starting_at(-3);
+            let n = plan(order, &first).samples().expect("an accepted move");
+            let last = at(order, &first, n);
+            let next = at(order, &first.starting_at(-3 + x), 0);
+            assert_eq!([last.count, next.count], [-3 + x; 2]);
+            assert_eq!(next.position - last.position, shortfall * x);
+        }
+    }
+}
+
 /// A set of these axes; no place after them is at 0.
 fn set(axes: &[Move]) -> Axes {
     let mut moves = [Move::new(8, [G; 4]).starting_at(9); MOST_AXES];
@@ -87,10 +108,8 @@ fn each_axis_has_its_own_start() {
 fn refusals(motion: Move, k: u64, places: u64, c: f64) -> Vec<i128> {
     let mut all = Vec::new();
     for order in [Fourth, Third] {
-        all.extend([
-            Request::Plan(order, motion),
-            Request::Sample(order, motion, k),
-        ]);
+        all.push(Request::Plan(order, motion));
+        all.push(Request::Sample(order, motion, k));
         all.push(Request::Positions(order, motion, places));
         all.push(Request::Reference(order, motion, places));
     }
@@ -100,29 +119,25 @@ fn refusals(motion: Move, k: u64, places: u64, c: f64) -> Vec<i128> {
     all.iter().map(refusal).collect()
 }
 
-/// Start and X with the refusal; all signs changed it is the same.
+/// Start and X with the refusal: every start at an edge and next to it with every X at an
+/// edge; and rows by hand.
 #[test]
 fn start_and_end_keep_the_span() {
-    let mut rows = vec![
-        (MOST, 1, 14),
-        (MOST, -1, 0),
-        (MOST, -MOST, 0),
-        (MOST + 1, -1, 14),
-    ];
-    rows.extend([(0, MOST, 0), (1, MOST, 14), (-1, MOST, 0), (3, -8, 0)]);
-    rows.extend([(MOST / 2, MOST / 2, 0), (MOST / 2, MOST / 2 + 1, 14)]);
-    rows.extend([(MOST + 1, 0, 1), (MOST + 1, MOST + 1, 2)]);
-    for x in [1, MOST, -1, -MOST] {
-        rows.extend([(i64::MAX, x, 14), (i64::MIN, x, 14)]);
+    let mut rows = vec![(3, -8, 0), (-3, 8, 0)];
+    for far in [MOST + 1, -MOST - 1, i64::MAX, i64::MIN] {
+        rows.extend([(far, 0, 1), (far, far, 2)]);
     }
-    rows.extend([
-        (i64::MAX, i64::MAX, 2),
-        (i64::MIN, i64::MIN, 2),
-        (i64::MIN, 0, 1),
-    ]);
-    let mirrored =
-        |(start, x, number): &(i64, i64, _)| (start.wrapping_neg(), x.wrapping_neg(), *number);
-    rows.extend(rows.clone().iter().map(mirrored));
+    for half in [MOST / 2, -MOST / 2] {
+        rows.extend([(half, half, 0), (half, half + half.signum(), 14)]);
+    }
+    let outside = |count: i128| count.abs() > 1_048_576;
+    for edge in [i64::MIN, -MOST, 0, MOST, i64::MAX] {
+        for start in [-1, 0, 1].map(|step| edge.wrapping_add(step)) {
+            let ends = |x: i64| [start.into(), i128::from(start) + i128::from(x)];
+            let number = |x| 14 * i128::from(ends(x).into_iter().any(outside));
+            rows.extend([1, -1, MOST, -MOST].map(|x| (start, x, number(x))));
+        }
+    }
     let widest = [1 << 50; 4];
     for (start, x, number) in rows {
         let motion = Move::new(x, widest).starting_at(start);
@@ -143,10 +158,8 @@ fn refusal_14_comes_after_6_and_before_7() {
     };
     assert_eq!(found(MOST + 1, [1, 1, 0, 0]), [5; 9]);
     // In third order S is not read. With bounds of 1 the samples are too many.
-    assert_eq!(
-        found(MOST + 1, [1, 1, 1, 0]),
-        [6, 6, 6, 6, 14, 14, 14, 14, 6]
-    );
+    let without_s = [6, 6, 6, 6, 14, 14, 14, 14, 6];
+    assert_eq!(found(MOST + 1, [1, 1, 1, 0]), without_s);
     assert_eq!(found(MOST + 1, [1; 4]), [14; 9]);
     assert_eq!(found(MOST, [1; 4]), [7; 9]);
 }

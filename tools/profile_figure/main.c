@@ -68,7 +68,7 @@ int main(void) {
   static nitswolan_sample_result samples[NITSWOLAN_MOST_POSITIONS];
   const uint64_t count = (uint64_t)NITSWOLAN_UNITS_PER_COUNT;
   profile drawn;
-  drawn.move = (nitswolan_move){800, 15 * count, 43 * count / 64, 35 * count / 512, 9 * count / 512};
+  drawn.move = (nitswolan_move){800, 15 * count, 43 * count / 64, 35 * count / 512, 9 * count / 512, 0};
   drawn.plan = nitswolan_plan_move(drawn.move);
   drawn.samples = samples;
   if (drawn.plan.refusal != 0) {

@@ -13,7 +13,7 @@ use Rattle.planner.specs.AxesClaims.{AcceptedAxis}
 use Rattle.planner.specs.declared.Move.{Move}
 use Rattle.planner.specs.declared.Plan.{Plan}
 use Rattle.planner.proofs.EachLaws.{each-at}
-use Rattle.planner.proofs.AxisLaws.{by-rest, chosen}
+use Rattle.planner.proofs.AxisLaws.{by-rest, chosen, axis-ends-in-span}
 use Rattle.planner.proofs.RaisedLaws.{raised-axis, raised-axis-samples, moving-plan}
 use Rattle.motion.specs.Sampling.{unitsOf, Values, valuesAt, sampleOf, Rounding}
 use Rattle.motion.specs.Axes.{restValues, restSample, axisValues, axisExact}
@@ -22,7 +22,7 @@ use Rattle.motion.specs.Inner.PlannedAxes.{AxisInRange, IsAxisSample}
 use Rattle.motion.specs.declared.Sample.{Sample}
 use Rattle.motion.proofs.CountLaws.{no-distance}
 use Rattle.motion.proofs.RoundedValues.{withRounding, one-rounded-sample}
-use Rattle.motion.proofs.EntryLaws.{within-range, axis-ends-in-span}
+use Rattle.motion.proofs.EntryLaws.{within-range}
 
 -- an axis by the test whether it is at rest: its exact profile, and its values
 module _ (n : ℕ) (m : Move) {rests : Bool} (h : atRest m ≡ rests) where
@@ -82,7 +82,7 @@ pub axis-in-range :
 axis-in-range axes h i d l {x} q k s =
     let m = getD axes i d in
     record {
-      start = axis-ends-in-span (each-at AcceptedAxis axes i d l h) .start;
+      start = axis-ends-in-span _ (each-at AcceptedAxis axes i d l h) .start;
       plan = λ moves.
           subst PlanInRange (sym (q ∙ moving-plan m (commonSamples axes) moves)) (within-range (raised-axis axes h i d l moves));
       sample = λ moves.

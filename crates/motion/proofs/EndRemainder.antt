@@ -3,9 +3,8 @@ use mathlib.Core.Bool.{true, false}
 use mathlib.Core.Path.{_≡_, sym, ap, subst, _∙_}
 use mathlib.Core.List.{List}
 use Prim.Native.Nat.{ℕ, _<_}
-use native.Mathlib.Nat.{le-refl}
 use native.Mathlib.Omega.{arith}
-use lib.IntN.{pos, negℤ}
+use lib.IntN.{negℤ}
 use lib.ListN.{length, take, getD}
 use Rattle.planner.specs.Intervals.{N, D}
 use Rattle.planner.specs.Result.{Each, given}
@@ -23,7 +22,6 @@ use Rattle.planner.proofs.CountedLaws.{counted-at, within}
 use Rattle.planner.proofs.AxesAnswers.{all-accepted}
 use Rattle.planner.proofs.AxesAcceptance.{planned-common}
 use Rattle.planner.proofs.RaisedLaws.{raised-axis, raised-axis-samples, resting-plan, moving-plan}
-use Rattle.planner.proofs.ResultLaws.{same-given}
 use Rattle.profile.specs.Inner.Widths.{span}
 use Rattle.motion.specs.Sampling.{Values, Motion, Samples}
 use Rattle.motion.specs.Axes.{restSample}
@@ -34,9 +32,8 @@ use Rattle.motion.proofs.EntryLaws.{PlannedAs, fourth-planned, third-pl
 use Rattle.motion.proofs.KeptRules.{keeps, third-keeps, fourth-follows, third-follows}
 use Rattle.motion.proofs.KeptLaws.{sampleAt}
 use Rattle.motion.proofs.EndRule.{remainder-end}
-use Rattle.motion.proofs.Demand3.{sampled}
+use Rattle.motion.proofs.GivenSamples.{rule-sample, rule-row}
 use Rattle.motion.proofs.AxisSampling.{axisRow, resting-row, values-by}
-use Rattle.motion.proofs.AxesSampling.{sampled-row}
 use Rattle.motion.proofs.AxesSampleRuns.{most, plan-is}
 
 -- the last sample of a plan
@@ -45,7 +42,7 @@ last-sample :
     → {last : Sample} → Samples x (x .samples) (given last)
     → last ≡ withRounding (x .start) (v n)
 last-sample {x} {v = v} f s =
-    same-given (sampled x (f .pass) (le-refl (x .samples)) s)
+    rule-sample x s
     ∙ ap (withRounding (x .start)) (sym (f .values-are (x .samples)))
     ∙ ap (λ (k : ℕ). withRounding (x .start) (v k)) (sym (f .samples-are))
 
@@ -98,9 +95,7 @@ end-remainder _ _ _ (axis-ends count moves sent N plans p samples s i c) =
     let l = within count moves sent (most sent p) i c in
     let same = counted-at count moves i c in
     let common = planned-common count moves p in
-    let row : getD samples i (restSample (pos 0)) ≡ axisRow n (axisAt moves i) n =
-    sampled-row count moves N (p .outcome-is) s (le-refl N) i _ l
-    ∙ ap (λ (m : Move). axisRow n m N) same ∙ ap (axisRow n (axisAt moves i)) common in
+    let row = rule-row sent s c ∙ ap (axisRow n (axisAt moves i)) common in
     subst (EndRemainder (axisAt moves i .displacement) (getD plans i restPlan .shortfall)) (sym row)
     (subst (λ (x : Plan). EndRemainder (axisAt moves i .displacement) (x .shortfall) (axisRow n (axisAt moves i) n)) (sym (plan-is sent p c))
     (subst (λ (m : Move). EndRemainder (m .displacement) (axisPlan m n .shortfall) (axisRow n m n)) same

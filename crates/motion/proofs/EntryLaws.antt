@@ -10,8 +10,7 @@ use lib.IntN.{ℤ, natAbs}
 use Rattle.planner.specs.Intervals.{Intervals, N}
 use Rattle.planner.specs.Result.{Each, Result, refused, given, Check, check, firstRefusal}
 use Rattle.planner.specs.Outcome.{mostCounts, distanceOf, intervalsOf, intervalsIn, samplesOf, planOf, checks, outcomeOf, Plans, outcome}
-use Rattle.planner.specs.Claims.{EndsInSpan, IsPlanned}
-use Rattle.planner.specs.AxesClaims.{AcceptedAxis}
+use Rattle.planner.specs.Claims.{IsPlanned}
 use Rattle.planner.specs.Third.{N₃, thirdIntervalsOf, thirdIntervalsIn, thirdSamplesOf, thirdPlanOf, thirdChecks, thirdOutcomeOf, PlansThird, thirdOutcome}
 use Rattle.planner.specs.Inner.Facts.{PlanFacts}
 use Rattle.planner.specs.Inner.ThirdFacts.{ThirdFacts}
@@ -24,7 +23,6 @@ use Rattle.planner.specs.declared.ThirdPlan.{ThirdPlan}
 use Rattle.planner.specs.declared.ThirdAnswer.{ThirdAnswer}
 use Rattle.planner.specs.declared.ThirdAnswer.the-variants.{Refused as NoThird}
 use Rattle.planner.proofs.Acceptance.{accepted-passes, third-passes}
-use Rattle.planner.proofs.AxisLaws.{by-rest, rest-resting, rest-moving}
 use Rattle.planner.proofs.FiguresChecks.{near-distance}
 use Rattle.planner.proofs.RefusalLaws.{Passes, stop, skip, none-left, all-pass, checks-joined}
 use Rattle.motion.specs.Sampling.{Values, valuesAt, valuesOf, thirdValuesOf, Motion, fourthOrder, thirdOrder}
@@ -70,10 +68,6 @@ pub record PlannedAs (x : Motion) (n : ℕ) (v : ℕ → Values) : Type 0 where
   pub pass : Each Passes (x .planChecks)
   pub samples-are : n ≡ x .samples
   pub values-are : (k : ℕ) → v k ≡ x .values k
-
--- an accepted axis starts and ends in the span, at rest too
-pub axis-ends-in-span : {m : Move} → AcceptedAxis m → EndsInSpan m
-axis-ends-in-span {m} h = by-rest m (λ q. h .resting (rest-resting m q) .1) (λ q. h .moving (rest-moving m q) .in-range .ends)
 
 -- the move was planned as x, in any intervals
 module _ {m : Move} {t : Intervals} {x : Plan} (f : PlanFacts m t x) where

@@ -1,4 +1,4 @@
--- The samples of two moves join where the next one begins at the count where the first one ends.
+-- The last sample has the count asked for, and the samples of two moves join where the next one starts at that count.
 use mathlib.Core.Path.{_≡_, sym, ap, subst, _∙_}
 use Prim.Native.Nat.{ℕ}
 use lib.IntN.{ℤ, pos, negℤ, _+ℤ_, _-ℤ_, +ℤ-idl, +ℤ-invr, negℤ-negℤ, -ℤ-+ℤ-cancel}
@@ -8,17 +8,17 @@ use Rattle.planner.specs.Claims.{InSpan}
 use Rattle.planner.specs.AxesClaims.{axisAt}
 use Rattle.planner.specs.declared.Move.{Move}
 use Rattle.planner.proofs.Acceptance.{passed-accepted, third-passed}
+use Rattle.planner.proofs.AxisLaws.{axis-ends-in-span}
 use Rattle.planner.proofs.AxesAcceptance.{planned-common}
 use Rattle.planner.proofs.RefusalLaws.{Passes}
 use Rattle.motion.specs.Sampling.{unitsOf, RoundsTo, Rounding, Motion, fourthOrder, thirdOrder, Samples}
 use Rattle.motion.specs.Demand3.{Kept}
 use Rattle.motion.specs.StartClaims.{SampledAt, in-fourth, in-third, in-set, RoundedFrom}
-use Rattle.motion.specs.EndClaims.{EndsAt, fourth-ends, third-ends, axis-ends, HandOverClaim}
+use Rattle.motion.specs.EndClaims.{EndsAt, fourth-ends, third-ends, axis-ends, EndCountClaim, HandOverClaim}
 use Rattle.motion.specs.declared.Sample.{Sample}
 use Rattle.motion.proofs.IntegerLaws.{distance-from}
 use Rattle.motion.proofs.CountLaws.{no-distance, one-rounding}
 use Rattle.motion.proofs.RoundedValues.{withRounding}
-use Rattle.motion.proofs.EntryLaws.{axis-ends-in-span}
 use Rattle.motion.proofs.AxisSampling.{axisRow}
 use Rattle.motion.proofs.Demand3.{fourth-kept, third-kept}
 use Rattle.motion.proofs.EndRemainder.{end-remainder}
@@ -80,7 +80,7 @@ last-count (axis-ends count moves sent N plans p samples h i c) =
 last-in-span : {m : Move} {shortfall : ℕ} {last : Sample} → EndsAt m shortfall last → InSpan (m .start +ℤ m .displacement)
 last-in-span (fourth-ends m plan p last h) = passed-accepted m (move-passed (fourthOrder m) h) .in-range .ends .end
 last-in-span (third-ends m plan p last h) = third-passed m (move-passed (thirdOrder m) h) .in-range .ends .end
-last-in-span (axis-ends count moves sent N plans p samples h i c) = axis-ends-in-span (row-accepted sent h c) .end
+last-in-span (axis-ends count moves sent N plans p samples h i c) = axis-ends-in-span _ (row-accepted sent h c) .end
 
 -- a position p that lacks a of u
 filled-up : (u p a : ℤ) → negℤ a ≡ p -ℤ u → u ≡ p +ℤ a
@@ -89,15 +89,16 @@ filled-up u p a h =
     ∙ ap (λ (y : ℤ). y -ℤ negℤ a) (ap (λ (y : ℤ). y +ℤ u) h ∙ -ℤ-+ℤ-cancel p u)
     ∙ ap (λ (y : ℤ). p +ℤ y) (negℤ-negℤ a)
 
+pub end-count : EndCountClaim
+end-count m shortfall last e =
+    record { count-is = last-count e; in-span = subst InSpan (sym (last-count e)) (last-in-span e) }
+
 pub hand-over : HandOverClaim
 hand-over m next shortfall last first e b same =
-    let end : last .count ≡ next .start = last-count e ∙ sym same in
     let place = first-position b in
     let left = sym (end-remainder m shortfall last e .remainder-is) ∙ ends-sampled e .remainder-is in
     record {
-      ends = end;
-      in-span = subst InSpan (sym same) (last-in-span e);
-      counts-join = at-start (rounded-from-start 0 next first b) place ∙ sym end;
+      counts-join = at-start (rounded-from-start 0 next first b) place ∙ same;
       positions-join =
-          place ∙ ap unitsOf (sym end) ∙ filled-up (unitsOf (last .count)) (last .position) (along (m .displacement) (pos shortfall)) left;
+          place ∙ ap unitsOf same ∙ filled-up (unitsOf (last .count)) (last .position) (along (m .displacement) (pos shortfall)) left;
     }

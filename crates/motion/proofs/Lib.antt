@@ -58,11 +58,12 @@ pub mod RestAxis
 pub mod Demand3Axes
 pub mod AxesTheorems
 pub mod SampleOfOne
-pub mod EndRemainder
 pub mod GivenSamples
+pub mod EndRemainder
 pub mod RoundedFromStart
 pub mod HandOver
-pub mod StartTheorems
+pub mod FromZero
+pub mod OneForceTable
 pub mod ExactProfile
 pub mod EitherDirection
 pub mod PlayedTable

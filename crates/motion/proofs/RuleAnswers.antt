@@ -1,7 +1,7 @@
 -- What demand 3 and the claim on reference rows assume can be met: the rules' own answers meet the promises of the entries, for every move
 -- and every table.
 use mathlib.Core.List.{List, []}
-use mathlib.Core.Path.{_≡_, refl, sym, subst}
+use mathlib.Core.Path.{_≡_, refl, sym, subst, _∙_}
 use Prim.Native.Nat.{ℕ, _+_, _≤_, zero-le}
 use native.Mathlib.Nat.{le-of-eq, le-refl}
 use native.Mathlib.Omega.{arith}
@@ -28,7 +28,7 @@ use Rattle.motion.proofs.FillLaws.{filled-outcome}
 use Rattle.motion.proofs.SamplingLaws.{ruleSample, rule-samples}
 use Rattle.motion.proofs.Demand3.{ruleAt, sampled, demand-3, third-demand-3}
 use Rattle.motion.proofs.ReferenceTheorems.{reference-rows}
-use Rattle.motion.proofs.HandOver.{hand-over}
+use Rattle.motion.proofs.HandOver.{end-count, hand-over}
 
 -- the outcome and the table of the rule itself, for any rule of rows
 module _ {A : Type 0} (x : Motion) (own : List (Check ℕ)) (rows : ℕ) (row : ℕ → A) (old : List A) where
@@ -140,16 +140,17 @@ third-reference-rows-forward = rule-third-reference-rows firstStarred first-thir
 pub third-reference-rows-backward : RuleReference (thirdOrder back) back
 third-reference-rows-backward = rule-third-reference-rows back (third-mirror firstStarred .0 first-third-accepted)
 
--- two accepted moves, the next from the count where the first one ends: the rule's own samples meet what `hand-over` assumes
+-- two accepted moves, the next from the count where the first one ended: the rule's own samples meet what `hand-over` assumes
 pub rule-hand-over :
     (m next : Move) → Accepted m → Accepted next → next .start ≡ m .start +ℤ m .displacement
-    → HandOver (m .displacement) (next .start) (planOf (distanceOf m) (intervalsOf m) .shortfall)
+    → HandOver (m .displacement) (planOf (distanceOf m) (intervalsOf m) .shortfall)
     (withRounding (m .start) (valuesOf m (samplesOf m))) (withRounding (next .start) (valuesOf next 0))
-rule-hand-over m next h l =
-    hand-over m next _ _ _
-    (fourth-ends m _ (record { outcome-is = sym (accepted-outcome m h) }) _
-    (rule-given (fourthOrder m) (accepted-passes m h) (le-refl (samplesOf m))))
-    (in-fourth next _ (rule-given (fourthOrder next) (accepted-passes next l) zero-le))
+rule-hand-over m next h l same =
+    let e =
+    fourth-ends m _ (record { outcome-is = sym (accepted-outcome m h) }) _
+    (rule-given (fourthOrder m) (accepted-passes m h) (le-refl (samplesOf m))) in
+    hand-over m next _ _ _ e (in-fourth next _ (rule-given (fourthOrder next) (accepted-passes next l) zero-le))
+    (same ∙ sym (end-count m _ _ e .count-is))
 
 -- a closed instance: the first starred move, and the same again from where it ended
 abbrev again : Move
@@ -164,7 +165,7 @@ again =
     }
 
 pub hand-over-again :
-    HandOver (pos 8) (pos 8) (planOf (distanceOf firstStarred) (intervalsOf firstStarred) .shortfall)
+    HandOver (pos 8) (planOf (distanceOf firstStarred) (intervalsOf firstStarred) .shortfall)
     (withRounding (pos 0) (valuesOf firstStarred (samplesOf firstStarred))) (withRounding (pos 8) (valuesOf again 0))
 hand-over-again =
     rule-hand-over firstStarred again first-accepted

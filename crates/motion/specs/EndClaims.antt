@@ -1,5 +1,5 @@
--- The last sample of a move, in either order or as an axis of a set: its remainder (`end-remainder`), and document 02, 7: the next move
--- that begins there (`hand-over`).
+-- The last sample of a move, in either order or as an axis of a set: its remainder (`end-remainder`); and document 02, 7: its count
+-- (`end-count`), and the next move that starts there (`hand-over`).
 use mathlib.Core.List.{List}
 use mathlib.Core.Path.{_≡_}
 use Prim.Native.Nat.{ℕ, _<_, _^_}
@@ -43,16 +43,22 @@ pub record EndRemainder (X : ℤ) (shortfall : ℕ) (last : Sample) : Type 0 whe
 abbrev pub EndRemainderClaim : Type 0
 EndRemainderClaim = (m : Move) (shortfall : ℕ) (last : Sample) → EndsAt m shortfall last → EndRemainder (m .displacement) shortfall last
 
--- "Handing the bottle from rail to rail": where the next move begins at the count where this one ends, the counts join, and so do the
--- positions up to the shortfall. That count is a start in the span.
-pub record HandOver (X end : ℤ) (shortfall : ℕ) (last first : Sample) : Type 0 where
-  pub ends : last .count ≡ end
-  pub in-span : InSpan end
+-- It has the count asked for, start plus X, which is a start in the span.
+pub record EndCount (m : Move) (last : Sample) : Type 0 where
+  pub count-is : last .count ≡ m .start +ℤ m .displacement
+  pub in-span : InSpan (last .count)
+
+abbrev pub EndCountClaim : Type 0
+EndCountClaim = (m : Move) (shortfall : ℕ) (last : Sample) → EndsAt m shortfall last → EndCount m last
+
+-- "Handing the bottle from rail to rail": where the next move starts at the count where this one ended, the counts join, and so do the
+-- positions up to the shortfall.
+pub record HandOver (X : ℤ) (shortfall : ℕ) (last first : Sample) : Type 0 where
   pub counts-join : first .count ≡ last .count
   pub positions-join : first .position ≡ last .position +ℤ along X (pos shortfall)
 
 abbrev pub HandOverClaim : Type 0
 HandOverClaim =
     (m next : Move) (shortfall : ℕ) (last first : Sample) → EndsAt m shortfall last → SampledAt 0 next first
-    → next .start ≡ m .start +ℤ m .displacement
-    → HandOver (m .displacement) (next .start) shortfall last first
+    → next .start ≡ last .count
+    → HandOver (m .displacement) shortfall last first

@@ -20,19 +20,19 @@ pub(crate) fn units_of(start: i64) -> i64
     UNITS_PER_COUNT * start
 }
 
-// The nearest count, and the position less that count in sub-count units.
+// The nearest count of a distance, and the distance less that count in sub-count units.
 pub(crate) struct Rounded {
     pub count: i64,
     pub remainder: i64,
 }
 
-// Halves go away from zero. The quotient is at most 2^23 in size and the fraction below 2^40, so no step leaves the range; G times the
-// count would, for a position of 2^63 - 2^39 or more.
-pub(crate) fn round_to_count(position: i64) -> Rounded
-    ensures { λ r. ⌜ RoundsTo position (r .count) (r .remainder) ⌝ }
+// Halves go away from zero, and so from the start. The quotient is at most 2^23 in size and the fraction below 2^40, so no step leaves the
+// range; G times the count would, for a distance of 2^63 - 2^39 or more.
+pub(crate) fn round_to_count(distance: i64) -> Rounded
+    ensures { λ r. ⌜ RoundsTo distance (r .count) (r .remainder) ⌝ }
 {
-    let quotient = position / UNITS_PER_COUNT;
-    let fraction = position % UNITS_PER_COUNT;
+    let quotient = distance / UNITS_PER_COUNT;
+    let fraction = distance % UNITS_PER_COUNT;
     if HALF_COUNT <= fraction {
         let count = quotient + 1;
         let remainder = fraction - UNITS_PER_COUNT;

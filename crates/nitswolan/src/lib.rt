@@ -35,7 +35,7 @@ pub use sheet::SheetResult;
 pub use table::TableResult;
 pub use third::ThirdPlanResult;
 
-// Plans a move, or names the lowest refusal that applies.
+// Plans a move, or names the first refusal that applies.
 #[no_mangle]
 pub extern "C" fn nitswolan_plan_move(m: Move) -> PlanResult
     ensures { λ r. ⌜ Answers planFields (Plans m) r ⌝ }

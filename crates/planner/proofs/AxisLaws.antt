@@ -10,6 +10,7 @@ use lib.IntN.{natAbs}
 use Rattle.planner.specs.Intervals.{N}
 use Rattle.planner.specs.Result.{refused, given, Each, Check, firstRefusal}
 use Rattle.planner.specs.Outcome.{mostSamples, boundChecks, endsOutside, spanCheck, intervalsIn, samplesOf}
+use Rattle.planner.specs.Claims.{EndsInSpan}
 use Rattle.planner.specs.Axes.{restPlan, atRest, axisChecks, ownSamples}
 use Rattle.planner.specs.AxesClaims.{Moving, Resting, AcceptedAxis}
 use Rattle.planner.specs.Inner.Undivided.{undividedResult, boundsResult}
@@ -74,6 +75,10 @@ module _ (m : Move) where
       let r = h .resting (rest-resting q) in
       subst (Each Passes) (sym (chosen _ _ q)) (each-joined Passes ownBounds ownSpan (bounds-pass (r .0)) (ends-pass m (r .1), tt)))
       (λ q. subst (Each Passes) (sym (chosen _ _ q)) (accepted-passes m (h .moving (rest-moving q))))
+
+  -- an accepted axis starts and ends in the span, at rest too
+  pub axis-ends-in-span : AcceptedAxis m → EndsInSpan m
+  axis-ends-in-span h = by-rest (λ q. h .resting (rest-resting q) .1) (λ q. h .moving (rest-moving q) .in-range .ends)
 
   -- what `undivided_axis` answers
   resting-is : atRest m ≡ true → axisResult m ≡ firstRefusal (ownBounds ++ ownSpan) (given restPlan)

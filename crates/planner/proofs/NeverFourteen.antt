@@ -1,22 +1,25 @@
 -- From start 0 refusal 14 is never given: it asks what 2 asked before it.
 use mathlib.Core.Bool.{true, false, true≢false}
-use mathlib.Core.List.{List, [], _∷_, _++_}
+use mathlib.Core.List.{List, [], _∷_, _++_, map}
 use mathlib.Core.Logic.{inl, inr}
 use mathlib.Core.Path.{_≡_, refl, sym, subst, _∙_}
-use Prim.Native.Nat.{ℕ}
+use Prim.Native.Nat.{ℕ, zero, suc}
 use native.Mathlib.Omega.{arith}
 use borrow.Author.Tests.{le-ltb}
 use lib.Dec.{ltb}
 use lib.IntN.{ℤ, pos, natAbs, +ℤ-idl}
+use lib.ListN.{length-map}
 use Rattle.planner.specs.Result.{Check, check, Each}
 use Rattle.planner.specs.Order.{FirstToApply}
 use Rattle.planner.specs.Outcome.{mostSamples, mostCounts, outOfRange, outOfSpan, endsOutside, spanCheck, displacementChecks, boundChecksToJerk, samplesOf, checks, outcomeOf}
 use Rattle.planner.specs.Third.{thirdSamplesOf, thirdChecks, thirdOutcomeOf}
-use Rattle.planner.specs.Axes.{atRest, restChecks}
+use Rattle.planner.specs.Axes.{atRest, restChecks, axisChecks}
+use Rattle.planner.specs.AxesClaims.{axisAt, Reason, not-a-count, all-rest, axis-refused}
 use Rattle.planner.specs.StartClaims.{fromZero, NeverFourteenClaim}
 use Rattle.planner.specs.declared.Move.{Move}
 use Rattle.planner.proofs.OrderLaws.{first-given}
 use Rattle.planner.proofs.AxisLaws.{by-rest, rest-resting, chosen}
+use Rattle.planner.proofs.AxesRefused.{axes-refused}
 
 zero-ends : (X : ℤ) → endsOutside X (pos 0) ≡ outOfSpan X
 zero-ends X = rw (+ℤ-idl X) refl
@@ -57,17 +60,17 @@ module _ (m : Move) where
   last-not : outOfSpan X ≡ false → (N : ℕ) → Each (NotOf 14) (last N)
   last-not near N = (inside near, (λ t e. omega (arith, e), tt))
 
-  abbrev slow : Check ℕ
-  slow = check 6 (outOfRange (m .snap))
+  abbrev snapCheck : Check ℕ
+  snapCheck = check 6 (outOfRange (m .snap))
 
-  slow-not : NotOf 14 slow
-  slow-not t e = omega (arith, e)
+  snap-not : NotOf 14 snapCheck
+  snap-not t e = omega (arith, e)
 
   fourth-not : FirstToApply 14 (checks (fromZero m)) → ⊥
   fourth-not f =
       let N = samplesOf (fromZero m) in
-      let p = past-two X (bounds (slow ∷ last N)) f in
-      past-bounds (slow ∷ last N) (slow-not, last-not (p .0) N) (p .1)
+      let p = past-two X (bounds (snapCheck ∷ last N)) f in
+      past-bounds (snapCheck ∷ last N) (snap-not, last-not (p .0) N) (p .1)
 
   third-not : FirstToApply 14 (thirdChecks (fromZero m)) → ⊥
   third-not f =
@@ -78,16 +81,35 @@ module _ (m : Move) where
   resting-not : atRest m ≡ true → FirstToApply 14 (restChecks (fromZero m)) → ⊥
   resting-not h f =
       let near : outOfSpan X ≡ false = le-ltb mostCounts (natAbs X) (omega (arith, rest-resting m h)) in
-      past-bounds (slow ∷ spanCheck X (pos 0) ∷ []) (slow-not, (inside near, tt)) f
+      past-bounds (snapCheck ∷ spanCheck X (pos 0) ∷ []) (snap-not, (inside near, tt)) f
 
-pub never-fourteen : (m : Move) → NeverFourteenClaim m
+  axis-not : FirstToApply 14 (axisChecks (fromZero m)) → ⊥
+  axis-not f =
+      by-rest m
+      (λ h. resting-not h (subst (FirstToApply 14) (chosen (restChecks (fromZero m)) (checks (fromZero m)) h) f))
+      (λ h. fourth-not (subst (FirstToApply 14) (chosen (restChecks (fromZero m)) (checks (fromZero m)) h) f))
+
+-- axis i of a set
+axis-from-zero : (moves : List Move) (i : ℕ) → axisAt (map fromZero moves) i ≡ fromZero (axisAt moves i)
+axis-from-zero [] i = refl
+axis-from-zero (m ∷ moves) zero = refl
+axis-from-zero (m ∷ moves) (suc i) = axis-from-zero moves i
+
+no-reason : (count : ℕ) (moves : List Move) (n place : ℕ) → Reason count (map fromZero moves) n place → n ≡ 14 → ⊥
+no-reason count moves _ _ (not-a-count h) e = omega (arith, e)
+no-reason count moves _ _ (all-rest from most h) e = omega (arith, e)
+no-reason count moves _ _ (axis-refused from most some i n l before f) e =
+    axis-not (axisAt moves i)
+    (subst (λ (m : Move). FirstToApply 14 (axisChecks m)) (axis-from-zero moves i)
+    (subst (λ (n : ℕ). FirstToApply n (axisChecks (axisAt (map fromZero moves) i))) e f))
+
+pub never-fourteen : NeverFourteenClaim
 unfolding outcomeOf thirdOutcomeOf
-never-fourteen m =
+never-fourteen =
     record {
-      fourth = λ h. fourth-not m (first-given ℕ _ (checks (fromZero m)) _ 14 .0 (sym (h .outcome-is)));
-      third = λ h. third-not m (first-given ℕ _ (thirdChecks (fromZero m)) _ 14 .0 (sym (h .outcome-is)));
-      axis = λ f.
-          by-rest m
-          (λ h. resting-not m h (subst (FirstToApply 14) (chosen (restChecks (fromZero m)) (checks (fromZero m)) h) f))
-          (λ h. fourth-not m (subst (FirstToApply 14) (chosen (restChecks (fromZero m)) (checks (fromZero m)) h) f));
+      fourth = λ m h. fourth-not m (first-given ℕ _ (checks (fromZero m)) _ 14 .0 (sym (h .outcome-is)));
+      third = λ m h. third-not m (first-given ℕ _ (thirdChecks (fromZero m)) _ 14 .0 (sym (h .outcome-is)));
+      axes = λ count moves sent place plans h.
+          no-reason count moves 14 place
+          (axes-refused count (map fromZero moves) (length-map moves fromZero ∙ sent) _ plans h 14 place .0 refl) refl;
     }

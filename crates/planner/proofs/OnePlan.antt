@@ -16,8 +16,8 @@ use Rattle.planner.proofs.ThirdTheorems.{third-facts}
 use Rattle.planner.proofs.AxesAcceptance.{planned-common}
 
 -- what does not read the start is the same of moves that differ in it alone
-apart : {A : Type 0} (f : Move → A) → ((m : Move) → f (fromZero m) ≡ f m) → (m n : Move) → fromZero m ≡ fromZero n → f m ≡ f n
-apart f unread m n q = sym (unread m) ∙ ap f q ∙ unread n
+start-unread : {A : Type 0} (f : Move → A) → ((m : Move) → f (fromZero m) ≡ f m) → (m n : Move) → fromZero m ≡ fromZero n → f m ≡ f n
+start-unread f unread m n q = sym (unread m) ∙ ap f q ∙ unread n
 
 rulePlan : Move → Plan
 rulePlan m = planOf (distanceOf m) (intervalsOf m)
@@ -69,8 +69,8 @@ pub one-plan : OnePlanClaim
 unfolding rulePlan thirdRulePlan
 one-plan =
     record {
-      fourth = λ m n q x y h l. planned-facts h .plan-rule ∙ apart rulePlan plan-unread m n q ∙ sym (planned-facts l .plan-rule);
-      third = λ m n q x y h l. third-facts h .plan-rule ∙ apart thirdRulePlan third-unread m n q ∙ sym (third-facts l .plan-rule);
+      fourth = λ m n q x y h l. planned-facts h .plan-rule ∙ start-unread rulePlan plan-unread m n q ∙ sym (planned-facts l .plan-rule);
+      third = λ m n q x y h l. third-facts h .plan-rule ∙ start-unread thirdRulePlan third-unread m n q ∙ sym (third-facts l .plan-rule);
       axes = λ count moves others q n n′ plans plans′ h l. (
         planned-common count moves h ∙ same-common _ _ q ∙ sym (planned-common count others l),
         places count moves h

@@ -1,6 +1,6 @@
 -- What the theorems say of a set of axes, over any answer that meets the promise: when it is planned (`axes-acceptance`, demand 2), and
 -- why and where it is refused (`axes-refused`); that the promise leaves one answer (`one-axes-answer`), and reads the counted moves alone
--- (`counted-alone`); that an axis is refused with its own lowest number (`axis-order`); what the common duration is (`common-duration`);
+-- (`counted-alone`); that the checks of an axis rise (`axis-order`); what the common duration is (`common-duration`);
 -- and that a move alone is the set of one (`set-of-one`).
 use mathlib.Core.Bool.{_||_, cond}
 use mathlib.Core.List.{List, [], _∷_}
@@ -102,7 +102,7 @@ module _ (count : ℕ) (moves : List Move) where
       length moves ≡ mostAxes
       → (n : ℕ) (plans : List Plan) → PlansAxes count moves (given n) plans → CommonDuration plans n
 
--- The checks of an axis rise, so that it is refused with its lowest number (`lowest-given`).
+-- The checks of an axis rise, so that it is refused with "its own lowest number", where 14 stands between 6 and 7 (`lowest-given`).
 abbrev pub AxisOrderClaim : Type 0
 AxisOrderClaim = (m : Move) → Rising (axisChecks m)
 

@@ -4,14 +4,14 @@ use mathlib.Core.Logic.{_↔_}
 use mathlib.Core.Path.{_≡_}
 use Prim.Native.Nat.{ℕ}
 use lib.IntN.{pos}
-use lib.ListN.{take}
+use lib.ListN.{length, take}
 use Rattle.planner.specs.Result.{refused, given}
-use Rattle.planner.specs.Order.{FirstToApply}
 use Rattle.planner.specs.Outcome.{Plans}
 use Rattle.planner.specs.Claims.{EndsInSpan, Accepted}
 use Rattle.planner.specs.Third.{PlansThird}
 use Rattle.planner.specs.ThirdClaims.{ThirdAccepted}
-use Rattle.planner.specs.Axes.{axisChecks, PlansAxes}
+use Rattle.planner.specs.Axes.{mostAxes, PlansAxes}
+use Rattle.planner.specs.AxesClaims.{AcceptedAxis}
 use Rattle.planner.specs.declared.Move.{Move}
 use Rattle.planner.specs.declared.Plan.{Plan}
 use Rattle.planner.specs.declared.ThirdPlan.{ThirdPlan}
@@ -32,12 +32,15 @@ fromZero m =
 pub record StartAddsClaim (m : Move) : Type 0 where
   pub fourth : Accepted m ↔ (Accepted (fromZero m) × EndsInSpan m)
   pub third : ThirdAccepted m ↔ (ThirdAccepted (fromZero m) × EndsInSpan m)
+  pub axis : AcceptedAxis m ↔ (AcceptedAxis (fromZero m) × EndsInSpan m)
 
 -- "Earlier calls and all sheets mean start 0": there 14 is never given.
-pub record NeverFourteenClaim (m : Move) : Type 0 where
-  pub fourth : Plans (fromZero m) (refused 14) → ⊥
-  pub third : PlansThird (fromZero m) (refused 14) → ⊥
-  pub axis : FirstToApply 14 (axisChecks (fromZero m)) → ⊥
+pub record NeverFourteenClaim : Type 0 where
+  pub fourth : (m : Move) → Plans (fromZero m) (refused 14) → ⊥
+  pub third : (m : Move) → PlansThird (fromZero m) (refused 14) → ⊥
+  pub axes :
+      (count : ℕ) (moves : List Move) → length moves ≡ mostAxes
+      → (place : ℕ) (plans : List Plan) → PlansAxes count (map fromZero moves) (refused (14, place)) plans → ⊥
 
 -- The plan does not depend on the start: moves that differ in it alone have one plan, where both have a plan; and so have sets.
 pub record OnePlanClaim : Type 0 where

@@ -43,7 +43,7 @@ fn undivided_in_range(w: u64, v: u64, acc: u64, j: u64, s: u64, outside: bool) -
     PlanAnswer::Planned(x)
 }
 
-// The same of any move, or the lowest refusal that applies.
+// The same of any move, or the first refusal that applies.
 pub(crate) fn undivided_plan(x: i64, v: u64, acc: u64, j: u64, s: u64, start: i64) -> PlanAnswer
     ensures { λ r. ⌜ outcome r ≡ undividedResult (moveOf x v acc j s start) ⌝ }
 {

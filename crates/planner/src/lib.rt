@@ -111,7 +111,7 @@ pub struct AxesPlan {
     pub plans: [Plan; MOST_AXES],
 }
 
-// Plans a move, or names the lowest refusal that applies.
+// Plans a move, or names the first refusal that applies.
 pub fn plan_move(m: Move) -> PlanAnswer
     ensures { λ r. ⌜ Plans m (outcome r) ⌝ }
 {

@@ -132,13 +132,15 @@ fn order() -> Table {
     table
 }
 
-/// The displacements of the largest size.
+/// The displacements of the largest size, and an end that does not fit 64 bits.
 fn largest() -> Table {
     let refused = |x| {
         let is = move |set: &Set| set.refusal() == 2 && set.refused().displacement == x;
         set(format!("X = {x}"), is)
     };
-    [i64::MIN, i64::MAX].map(refused).into()
+    let end = |set: &Set| set.refusal() == 14 && set.refused().ends()[1].abs() > 1 << 63;
+    let [least, most] = [i64::MIN, i64::MAX].map(refused);
+    vec![least, most, set("14, the end beyond 2^63", end)]
 }
 
 /// At rest the bounds and the start alone are asked, wherever the axis stands.

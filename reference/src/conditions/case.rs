@@ -39,9 +39,7 @@ impl Case<'_> {
     }
 
     pub fn bounds(&self) -> [u64; 4] {
-        self.request
-            .motion()
-            .map_or([0; 4], |motion| motion.bounds())
+        self.request.motion().map_or([0; 4], Move::bounds)
     }
 
     /// The intervals, also where N is above 4,096 or the start or the end is refused.

@@ -2,7 +2,7 @@
 
 use super::{accepted, row, Case, Table};
 use crate::draw::starts::SPAN_EDGES;
-use crate::planner::{Order, LARGEST_DISPLACEMENT};
+use crate::planner::Order;
 
 /// Both directions, from 0 and across it; 14 beside 7.
 pub fn moves() -> Table {
@@ -18,8 +18,8 @@ pub fn moves() -> Table {
     table
 }
 
-/// Each edge of the span, at the start and at the end; and what comes before 14: the last
-/// bound that is read, and 2, where the end does not fit 64 bits.
+/// Each edge of the span, at the start and at the end; an end that does not fit 64 bits; and
+/// what comes before 14: the last bound that is read, and 2 at such an end.
 pub fn edges(order: Order) -> Table {
     let mut table = Table::new();
     for (edge, refusal) in SPAN_EDGES {
@@ -33,12 +33,10 @@ pub fn edges(order: Order) -> Table {
         }
     }
     let last = 2 + order as i128;
-    for (number, beyond) in [
-        (last, LARGEST_DISPLACEMENT.into()),
-        (2, i128::from(i64::MAX)),
-    ] {
-        let both = move |case: &Case| case.refusal() == number && case.ends()[1].abs() > beyond;
-        table.push(row(format!("{number} and 14"), both));
+    for (number, bits) in [(last, 20), (2, 63), (14, 63)] {
+        let beyond = move |case: &Case| case.ends()[1].abs() > 1 << bits;
+        let both = move |case: &Case| case.refusal() == number && beyond(case);
+        table.push(row(format!("{number}, the end beyond 2^{bits}"), both));
     }
     table
 }

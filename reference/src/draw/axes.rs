@@ -77,10 +77,8 @@ fn equal_lengths(axes: &mut [Move], random: &mut Random) {
         let shape = [0; 3].map(|_| random.below(9));
         let other = moves::of_samples(Order::Fourth, n, shape);
         if plan(Order::Fourth, &other).samples() == Some(n) {
-            *axis = Move::new(
-                other.displacement * axis.displacement.signum(),
-                other.bounds(),
-            );
+            let x = other.displacement * axis.displacement.signum();
+            *axis = Move::new(x, other.bounds());
         }
     }
 }

@@ -17,6 +17,7 @@ pub fn sets() -> Vec<(Axes, (u64, u8))> {
     let beyond = Move::new(i64::MIN, [0; 4]);
     let rest = |bounds| Move::new(0, bounds);
     let at = |start, motion: Move| motion.starting_at(start);
+    let without_s = at(-2 << 20, rest([1, 1, 1, 0]));
     let mut eight = [short; MOST_AXES];
     eight[7] = beyond;
     let mut list = vec![
@@ -29,10 +30,7 @@ pub fn sets() -> Vec<(Axes, (u64, u8))> {
         (set(&[long, short], longest), (0, 0)),
         (set(&[short, at(1 << 20, too_long)], long), (2, 14)),
         (set(&[too_long, at(1 << 20, short)], long), (1, 7)),
-        (
-            set(&[short, at(-2 << 20, rest([1, 1, 1, 0]))], long),
-            (2, 6),
-        ),
+        (set(&[short, without_s], long), (2, 6)),
         (set(&[at(i64::MIN, rest([1; 4])); 3], long), (0, 1)),
         (set(&[short, long], at(i64::MAX, short)), (0, 0)),
     ];
@@ -56,8 +54,6 @@ pub fn samples() -> Vec<(Axes, u64, (u64, u8))> {
     let refused = set(&[short, too_long], longest);
     let within = sets().into_iter().map(|(axes, refusal)| (axes, 9, refusal));
     let ends = [(12, 0), (13, 9), (u64::MAX, 9)].map(|(k, number)| (two, k, (0, number)));
-    within
-        .chain(ends)
-        .chain([(refused, 4_098, (2, 7))])
-        .collect()
+    let after = [(refused, 4_098, (2, 7))];
+    within.chain(ends).chain(after).collect()
 }

@@ -38,7 +38,7 @@ pub fn write_rows(profile: &Profile, q: &Coefficients, drive: Drive, table: &mut
     }
 }
 
-/// The profile and the machine as it is read, or the lowest refusal.
+/// The profile and the machine as it is read, or the first refusal.
 fn accepted(motion: &Move, machine: &Machine, places: usize) -> Result<(Profile, Machine), u8> {
     let profile = Profile::fitting(Order::Fourth, motion, places, MORE_ROWS)?;
     let machine = machine.checked().ok_or(10)?;

@@ -68,7 +68,7 @@ impl Sample {
     }
 }
 
-/// The values at sample k, or the lowest refusal that applies.
+/// The values at sample k, or the first refusal that applies.
 pub fn sample(order: Order, motion: &Move, k: u64) -> SampleAnswer {
     match Profile::of(order, motion) {
         Ok(profile) if k <= profile.samples => SampleAnswer::Sampled(Sample::of(&profile, k)),

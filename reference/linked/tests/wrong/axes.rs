@@ -50,13 +50,23 @@ fn an_unused_place_that_is_not_0() {
 
 /// At rest an axis is not asked for its start.
 #[test]
-fn a_rest_at_zero() {
-    let wrong = Samples(|mut axes, k, result| {
+fn a_rest_outside_the_span() {
+    let wrong = Plans(|mut axes, result| {
         let at_rest = axes.moves.iter_mut().filter(|axis| axis.displacement == 0);
         at_rest.for_each(|axis| axis.start = 0);
-        *result = Proved.sample_axes(axes, k);
+        *result = Proved.plan_axes(axes);
     });
-    assert_found(&wrong, "axes_sample", "library: refusal 0");
+    assert_found(&wrong, "axes", "reference: refusal 14");
+}
+
+#[test]
+fn a_rest_at_zero() {
+    let wrong = Samples(|axes, _, result| {
+        let places = axes.moves.iter().zip(&mut result.values);
+        let at_rest = places.filter(|(axis, _)| axis.displacement == 0);
+        at_rest.for_each(|(_, at)| (at.position, at.count) = (0, 0));
+    });
+    assert_found(&wrong, "axes_sample", "refusal 0, from field 6 on [0, 0,");
 }
 
 /// 9 after the end that the first axis has by itself.

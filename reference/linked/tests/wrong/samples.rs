@@ -3,8 +3,6 @@ use linked::differential::{Entries, Proved};
 use linked::library::{Axes, AxesSampleResult, Move, SampleResult};
 use reference::profile::Sample;
 
-const ALL: [&str; 3] = ["sample", "third_sample", "axes_sample"];
-
 /// What becomes of right values at a sample, of a move in either order or of each axis.
 struct Samples(fn(u64, &mut Sample));
 
@@ -28,10 +26,16 @@ impl Entries for Samples {
     }
 }
 
-/// The fault is found in each of these kinds.
-fn assert_in(kinds: &[&str], words: &str, spoil: fn(u64, &mut Sample)) {
-    for kind in kinds {
-        assert_found(&Samples(spoil), kind, words);
+/// The fault is found in this field of a move's sample, in either order, and of a set's, in
+/// which the count of the first axis is field 7 and that of the third 21.
+fn assert_from(alone: u8, in_set: u8, spoil: fn(u64, &mut Sample)) {
+    for (kind, field) in [
+        ("sample", alone),
+        ("third_sample", alone),
+        ("axes_sample", in_set),
+    ] {
+        let words = format!("refusal 0, from field {field} on");
+        assert_found(&Samples(spoil), kind, &words);
     }
 }
 
@@ -43,7 +47,7 @@ fn other_way(at: &mut Sample) {
 
 #[test]
 fn a_half_count_towards_the_start() {
-    assert_in(&ALL, "refusal 0, from field", |_, at| {
+    assert_from(6, 7, |_, at| {
         if at.remainder.abs() == 1 << 39 {
             other_way(at);
         }
@@ -53,7 +57,7 @@ fn a_half_count_towards_the_start() {
 /// It is the start from which halves go away.
 #[test]
 fn a_half_count_away_from_the_rails_zero() {
-    assert_in(&ALL, "refusal 0, from field", |_, at| {
+    assert_from(6, 21, |_, at| {
         if at.remainder.abs() == 1 << 39 && at.remainder.signum() == at.position.signum() {
             other_way(at);
         }
@@ -63,7 +67,7 @@ fn a_half_count_away_from_the_rails_zero() {
 /// At a half the count goes away from the start, and the remainder is the other count's.
 #[test]
 fn a_remainder_towards_the_start_at_a_half() {
-    assert_in(&ALL, "refusal 0, from field", |_, at| {
+    assert_from(7, 8, |_, at| {
         if at.remainder.abs() == 1 << 39 {
             at.remainder = -at.remainder;
         }
@@ -72,7 +76,7 @@ fn a_remainder_towards_the_start_at_a_half() {
 
 #[test]
 fn a_remainder_without_its_sign() {
-    assert_in(&ALL, "refusal 0, from field", |_, at| {
+    assert_from(7, 8, |_, at| {
         at.remainder = at.remainder.abs();
     });
 }
@@ -80,24 +84,22 @@ fn a_remainder_without_its_sign() {
 /// What division towards zero leaves of a position, not what its count does.
 #[test]
 fn a_remainder_of_division() {
-    assert_in(&ALL, "refusal 0, from field", |_, at| {
+    assert_from(7, 8, |_, at| {
         at.remainder = at.position % (1 << 40);
     });
 }
 
 #[test]
 fn a_snap_that_is_not_0() {
-    let words = "refusal 0, from field 1 on";
-    assert_in(&["third_sample"], words, |_, at| at.snap = at.jerk);
+    let wrong = Samples(|_, at| at.snap = at.jerk);
+    assert_found(&wrong, "third_sample", "refusal 0, from field 1 on");
 }
 
 /// As in fourth order.
 #[test]
 fn a_jerk_of_0_at_sample_0() {
-    let words = "from field 2 on [0, 0, 0,";
-    assert_in(&["third_sample"], words, |k, at| {
-        at.jerk *= i64::from(k > 0)
-    });
+    let wrong = Samples(|k, at| at.jerk *= i64::from(k > 0));
+    assert_found(&wrong, "third_sample", "from field 2 on [0, 0, 0,");
 }
 
 /// At rest after the end, where a sample is refused.

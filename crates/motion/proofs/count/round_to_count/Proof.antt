@@ -43,47 +43,47 @@ read-back : {x c r : ℤ} → SFits w64 c → SFits w64 r → RoundsTo x c r →
 read-back h k is = rw (toZ-ofZ h, toZ-ofZ k) is
 
 div-quotient : tie.Need-div-quotient
-div-quotient c = rw (toZ-ofZ (c .fits .position)) (omega arith, quotient-fits (c .args .position) (c .fits .position))
+div-quotient c = rw (toZ-ofZ (c .fits .distance)) (omega arith, quotient-fits (c .args .distance) (c .fits .distance))
 
 rem-fraction : tie.Need-rem-fraction
 rem-fraction c = div-quotient c
 
 add-count : tie.Need-add-count
-add-count c = quotient-step (c .before .args .position) (c .before .fits .position) _ (omega arith)
+add-count c = quotient-step (c .before .args .distance) (c .before .fits .distance) _ (omega arith)
 
 -- in either order: a remainder without its sign then fails where it is wrong
 sub-remainder : tie.Need-sub-remainder
 sub-remainder c =
-    let x = c .before .args .position in
+    let x = c .before .args .distance in
     let both = differences-fit (fraction x) (pos unitsPerCount) (omega (arith, fraction-size x)) (omega arith) in
-    rw (fraction-is x (c .before .fits .position)) (search both)
+    rw (fraction-is x (c .before .fits .distance)) (search both)
 
 returns : tie.Need-returns
 returns c =
-    let x = c .before .args .position in
-    let h = c .before .fits .position in
+    let x = c .before .args .distance in
+    let h = c .before .fits .distance in
     let test = rw (fraction-is x h) at (c .if1 .taken) in
     rw (quotient-is x h, fraction-is x h)
     (read-back (rw (quotient-is x h) at (add-count c)) (rw (fraction-is x h) at (sub-remainder c)) (up x _ _ test (omega arith) refl))
 
 sub-count : tie.Need-sub-count
-sub-count c = quotient-step (c .before .before .args .position) (c .before .before .fits .position) _ (omega arith)
+sub-count c = quotient-step (c .before .before .args .distance) (c .before .before .fits .distance) _ (omega arith)
 
 add-remainder : tie.Need-add-remainder
-add-remainder c = fraction-step (c .before .before .args .position) (c .before .before .fits .position) _ (omega arith)
+add-remainder c = fraction-step (c .before .before .args .distance) (c .before .before .fits .distance) _ (omega arith)
 
 returns-2 : tie.Need-returns-2
 returns-2 c =
-    let x = c .before .before .args .position in
-    let h = c .before .before .fits .position in
+    let x = c .before .before .args .distance in
+    let h = c .before .before .fits .distance in
     let test = rw (fraction-is x h) at (c .if2 .taken) in
     rw (quotient-is x h, fraction-is x h)
     (read-back (rw (quotient-is x h) at (sub-count c)) (rw (fraction-is x h) at (add-remainder c)) (down x _ _ test (omega arith) refl))
 
 returns-3 : tie.Need-returns-3
 returns-3 c =
-    let x = c .before .before .args .position in
-    let h = c .before .before .fits .position in
+    let x = c .before .before .args .distance in
+    let h = c .before .before .fits .distance in
     rw (quotient-is x h, fraction-is x h)
     (stay x _ _ (rw (fraction-is x h) at (c .before .if1 .left)) (rw (fraction-is x h) at (c .if2 .left)) (omega arith) (omega arith))
 

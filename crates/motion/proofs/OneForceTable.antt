@@ -1,31 +1,18 @@
--- Demand 3 of a move that starts at 0 is what it was before there was a start; and the force rows know none.
+-- Force rows do not depend on the start.
 use mathlib.Core.List.{List}
-use mathlib.Core.Path.{_≡_, sym, ap, ap₂, subst, _∙_}
+use mathlib.Core.Path.{_≡_, sym, ap, ap₂, _∙_}
 use Prim.Native.Nat.{ℕ, _+_}
 use lib.Ieee.{Float}
-use lib.IntN.{ℤ, pos, _+ℤ_, _-ℤ_, +ℤ-idl, +ℤ-idr}
 use Rattle.planner.specs.Result.{Result, given, Check}
 use Rattle.planner.specs.Outcome.{intervalsOf, samplesOf}
 use Rattle.planner.specs.declared.Move.{Move}
-use Rattle.motion.specs.Sampling.{Values, valuesOf, unitsOf, Motion}
+use Rattle.motion.specs.Sampling.{Values, valuesOf, Motion}
 use Rattle.motion.specs.ForceRows.Machine.{Machine, machineAsRead}
 use Rattle.motion.specs.ForceRows.Doubled.{doubledValues}
 use Rattle.motion.specs.ForceRows.Force.{forceRow}
 use Rattle.motion.specs.Tables.{rowsFrom, tableOf, rowNumbers, force, Fills, FillsForce}
-use Rattle.motion.specs.Demand3.{HalfCount}
-use Rattle.motion.specs.StartClaims.{FromZeroClaim, ForceApartClaim}
+use Rattle.motion.specs.StartClaims.{OneForceTableClaim}
 use Rattle.motion.proofs.FillLaws.{filled-rows}
-
-pub from-zero : FromZeroClaim
-from-zero m N P E at kept zero =
-    let units : unitsOf (m .start) ≡ pos 0 = ap unitsOf zero in
-    let ways : _≡_ {A = ℕ → ℤ} (λ k. at k .position -ℤ unitsOf (m .start)) (λ k. at k .position) =
-    λ i k. (ap (λ (u : ℤ). at k .position -ℤ u) units ∙ +ℤ-idr (at k .position)) i in
-    record {
-      position-rest = kept .position-rest ∙ units;
-      half-count = subst (HalfCount (m .displacement) N P E) ways (kept .half-count);
-      count-end = kept .count-end ∙ ap (λ (s : ℤ). s +ℤ m .displacement) zero ∙ +ℤ-idl (m .displacement);
-    }
 
 -- a table that was filled holds the rows, whatever the checks are
 filled-is :
@@ -55,6 +42,6 @@ same-force m n machine old {rows = rows} samples values f g =
           ∙ sym (filled-is g),
     )
 
-pub force-apart : ForceApartClaim
+pub one-force-table : OneForceTableClaim
 unfolding samplesOf intervalsOf valuesOf
-force-apart m n same machine old new new′ rows rows′ = same-force m n machine old (ap samplesOf same) (ap valuesOf same)
+one-force-table m n same machine old new new′ rows rows′ = same-force m n machine old (ap samplesOf same) (ap valuesOf same)
