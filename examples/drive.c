@@ -51,7 +51,7 @@ static void play(nitswolan_move move, const int64_t *table, uint64_t rows) {
   for (uint64_t k = 0; k < rows; k++) {
     const nitswolan_sample_result now = nitswolan_sample_move(move, k);
     printf("%6" PRIu64 "  %13" PRId64 "  %5" PRId64 "  %13" PRId64 "  ", k, table[k], now.count, now.velocity);
-    print_rail(now.count, move.displacement);
+    print_rail(now.count, move.start + move.displacement);
   }
 }
 

@@ -22,7 +22,8 @@
  *
  * Positions and counts are read from the rail's zero: a move begins at its start count and ends at the start plus the displacement. All
  * else (plans, velocity, acceleration, jerk, snap and forces) is the same from every start that is not refused. To go on where a move
- * ended, send its end count as the start of the next: then the counts join, and the positions join but for the shortfall of the first move.
+ * ended, send its end count as the start of the next: the start plus the displacement, or the count at sample N, and not the last row
+ * divided, which is a count less where there is a shortfall. Then the counts join, and the positions join but for that shortfall.
  */
 #ifndef NITSWOLAN_H
 #define NITSWOLAN_H
@@ -283,7 +284,7 @@ nitswolan_table_result nitswolan_fill_positions_third(nitswolan_move move, int64
 nitswolan_table_result nitswolan_fill_reference_third(nitswolan_move move, int64_t *table, size_t places);
 
 /* Plans a set of axes. Refusals 1 to 7, 13 and 14: 13 before all others, then 1 if every displacement is 0, both with place 0. Otherwise
- * the first axis that is refused gives its own first number and its place: 2 to 6, 14 or 7; or 3 to 6 or 14 if it is at rest. */
+ * the first axis that is refused gives the first of its refusals and its place: 2 to 6, 14 or 7; or 3 to 6 or 14 if it is at rest. */
 nitswolan_axes_plan_result nitswolan_plan_axes(nitswolan_axes axes);
 
 /* The values of every axis of a set at a sample from 0 to N. Refusals as for its plans, and then 9, with place 0. There are no tables for a

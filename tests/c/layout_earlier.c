@@ -1,5 +1,5 @@
-/* Moves as they were written before they had a start: it must be 0, and every answer that of start 0. Such a program has to be built with
- * this header, but not changed. Five numbers in braces are right C, and what is not listed is 0; with -Wextra the compiler warns of it, so
+/* Moves as they were written before they had a start: it must be 0, and the answers below those of start 0. Such a program has to be
+ * built with this header, but not changed. Five numbers in braces are right C, and what is not listed is 0; with -Wextra the compiler warns of it, so
  * that warning alone is off in this file, as a caller would have it with -Wno-missing-field-initializers. */
 #include "nitswolan.h"
 

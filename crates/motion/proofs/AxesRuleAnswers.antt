@@ -32,10 +32,10 @@ module _ (count : ℕ) (moves : List Move) where
   pub rule-samples-axes : (k : ℕ) → SamplesAxes count moves k (axesSampleResult count moves k) (ruleSamples k)
   rule-samples-axes k = record { outcome-is = refl; placed = placed-rows count moves k refl }
 
--- a closed instance: the first of document 01's moves, the mirror of the second, to which it is raised, an axis at rest, and five places
--- that are not counted
+-- a closed instance: the first of document 01's moves, the mirror of the second, to which it is raised, an axis at rest at 5, and five
+-- places that are not counted
 abbrev resting : Move
-resting = record { displacement = pos 0; velocity = 1; acceleration = 1; jerk = 1; snap = 1; start = pos 0 }
+resting = record { displacement = pos 0; velocity = 1; acceleration = 1; jerk = 1; snap = 1; start = pos 5 }
 
 abbrev pub three : List Move
 three = firstStarred ∷ mirrored secondStarred ∷ resting ∷ noMove ∷ noMove ∷ noMove ∷ noMove ∷ noMove ∷ []

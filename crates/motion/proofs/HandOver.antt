@@ -68,10 +68,10 @@ last-in :
     {m : Move} (x : Motion) → Lines m x → {s : Sample} → Samples x (x .samples) (given s) → s .count ≡ m .start +ℤ m .displacement
 last-in x lines h = ap (λ (s : Sample). s .count) (rule-sample x h) ∙ lines (move-passed x h) .count-end
 
-last-count : {m : Move} {shortfall : ℕ} {last : Sample} → EndsAt m shortfall last → last .count ≡ m .start +ℤ m .displacement
-last-count (fourth-ends m plan p last h) = last-in (fourthOrder m) (fourth-lines m) h
-last-count (third-ends m plan p last h) = last-in (thirdOrder m) (third-lines m) h
-last-count (axis-ends count moves sent N plans p samples h i c) =
+end-counted : {m : Move} {shortfall : ℕ} {last : Sample} → EndsAt m shortfall last → last .count ≡ m .start +ℤ m .displacement
+end-counted (fourth-ends m plan p last h) = last-in (fourthOrder m) (fourth-lines m) h
+end-counted (third-ends m plan p last h) = last-in (thirdOrder m) (third-lines m) h
+end-counted (axis-ends count moves sent N plans p samples h i c) =
     ap (λ (s : Sample). s .count)
     (rule-row sent h c ∙ ap (λ (k : ℕ). axisRow (common sent h c) (axisAt moves i) k) (planned-common count moves p))
     ∙ row-kept sent h c .kept .count-end
@@ -91,7 +91,7 @@ filled-up u p a h =
 
 pub end-count : EndCountClaim
 end-count m shortfall last e =
-    record { count-is = last-count e; in-span = subst InSpan (sym (last-count e)) (last-in-span e) }
+    record { count-is = end-counted e; in-span = subst InSpan (sym (end-counted e)) (last-in-span e) }
 
 pub hand-over : HandOverClaim
 hand-over m next shortfall last first e b same =

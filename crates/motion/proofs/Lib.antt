@@ -61,6 +61,7 @@ pub mod SampleOfOne
 pub mod GivenSamples
 pub mod EndRemainder
 pub mod RoundedFromStart
+pub mod StartGained
 pub mod HandOver
 pub mod FromZero
 pub mod OneForceTable

@@ -9,7 +9,7 @@ use lib.IntN.{ℤ, pos, _+ℤ_}
 use lib.ListN.{length, replicate, length-replicate}
 use Rattle.planner.specs.Result.{Each, Result, given, Check}
 use Rattle.planner.specs.Outcome.{distanceOf, intervalsOf, samplesOf, planOf}
-use Rattle.planner.specs.Claims.{Accepted, mirrored}
+use Rattle.planner.specs.Claims.{EndsInSpan, Accepted, mirrored}
 use Rattle.planner.specs.ThirdClaims.{ThirdAccepted}
 use Rattle.planner.specs.declared.Move.{Move}
 use Rattle.planner.proofs.RefusalLaws.{Passes}
@@ -112,33 +112,55 @@ pub rule-third-reference-rows : (m : Move) → ThirdAccepted m → RuleReference
 rule-third-reference-rows m h = rule-reference (thirdOrder m) m (reference-rows m .third) (third-passes m h)
 
 -- closed instances, forward and backward: the first of document 01's moves, and its mirror
+-- the first starred move again, from where it ended
+abbrev pub again : Move
+again =
+    record {
+      displacement = firstStarred .displacement;
+      velocity = firstStarred .velocity;
+      acceleration = firstStarred .acceleration;
+      jerk = firstStarred .jerk;
+      snap = firstStarred .snap;
+      start = pos 8;
+    }
+
+again-in-span : EndsInSpan again
+again-in-span = record { start = omega arith; end = omega arith }
+
+pub again-accepted : Accepted again
+again-accepted = start-adds again .fourth .1 (first-accepted, again-in-span)
+
+pub again-third-accepted : ThirdAccepted again
+again-third-accepted = start-adds again .third .1 (first-third-accepted, again-in-span)
+
+-- and that the other way
 abbrev back : Move
-back = mirrored firstStarred
+back = mirrored again
 
 pub demand-3-forward : Demand3 firstStarred (ruleSample (fourthOrder firstStarred)) (positions (fourthOrder firstStarred))
 demand-3-forward = rule-demand-3 firstStarred first-accepted
 
 pub demand-3-backward : Demand3 back (ruleSample (fourthOrder back)) (positions (fourthOrder back))
-demand-3-backward = rule-demand-3 back (mirror firstStarred .0 first-accepted)
+demand-3-backward = rule-demand-3 back (mirror again .0 again-accepted)
 
 -- and of the third order
 pub third-demand-3-forward : ThirdDemand3 firstStarred (ruleSample (thirdOrder firstStarred)) (positions (thirdOrder firstStarred))
 third-demand-3-forward = rule-third-demand-3 firstStarred first-third-accepted
 
 pub third-demand-3-backward : ThirdDemand3 back (ruleSample (thirdOrder back)) (positions (thirdOrder back))
-third-demand-3-backward = rule-third-demand-3 back (third-mirror firstStarred .0 first-third-accepted)
+third-demand-3-backward = rule-third-demand-3 back (third-mirror again .0 again-third-accepted)
 
 pub reference-rows-forward : RuleReference (fourthOrder firstStarred) firstStarred
 reference-rows-forward = rule-reference-rows firstStarred first-accepted
 
 pub reference-rows-backward : RuleReference (fourthOrder back) back
-reference-rows-backward = rule-reference-rows back (mirror firstStarred .0 first-accepted)
+reference-rows-backward = rule-reference-rows back (mirror again .0 again-accepted)
 
 pub third-reference-rows-forward : RuleReference (thirdOrder firstStarred) firstStarred
 third-reference-rows-forward = rule-third-reference-rows firstStarred first-third-accepted
 
 pub third-reference-rows-backward : RuleReference (thirdOrder back) back
-third-reference-rows-backward = rule-third-reference-rows back (third-mirror firstStarred .0 first-third-accepted)
+third-reference-rows-backward = rule-third-reference-rows back (third-mirror again .0 again-third-accepted)
 
 -- two accepted moves, the next from the count where the first one ended: the rule's own samples meet what `hand-over` assumes
 pub rule-hand-over :
@@ -152,21 +174,8 @@ rule-hand-over m next h l same =
     hand-over m next _ _ _ e (in-fourth next _ (rule-given (fourthOrder next) (accepted-passes next l) zero-le))
     (same ∙ sym (end-count m _ _ e .count-is))
 
--- a closed instance: the first starred move, and the same again from where it ended
-abbrev again : Move
-again =
-    record {
-      displacement = firstStarred .displacement;
-      velocity = firstStarred .velocity;
-      acceleration = firstStarred .acceleration;
-      jerk = firstStarred .jerk;
-      snap = firstStarred .snap;
-      start = pos 8;
-    }
-
+-- a closed instance: the first starred move, and again
 pub hand-over-again :
     HandOver (pos 8) (planOf (distanceOf firstStarred) (intervalsOf firstStarred) .shortfall)
     (withRounding (pos 0) (valuesOf firstStarred (samplesOf firstStarred))) (withRounding (pos 8) (valuesOf again 0))
-hand-over-again =
-    rule-hand-over firstStarred again first-accepted
-    (start-adds again .fourth .1 (first-accepted, record { start = omega arith; end = omega arith })) refl
+hand-over-again = rule-hand-over firstStarred again first-accepted again-accepted refl

@@ -90,7 +90,7 @@ module _ (m : Move) where
       (λ h. fourth-not (subst (FirstToApply 14) (chosen (restChecks (fromZero m)) (checks (fromZero m)) h) f))
 
 -- axis i of a set
-axis-from-zero : (moves : List Move) (i : ℕ) → axisAt (map fromZero moves) i ≡ fromZero (axisAt moves i)
+pub axis-from-zero : (moves : List Move) (i : ℕ) → axisAt (map fromZero moves) i ≡ fromZero (axisAt moves i)
 axis-from-zero [] i = refl
 axis-from-zero (m ∷ moves) zero = refl
 axis-from-zero (m ∷ moves) (suc i) = axis-from-zero moves i

@@ -38,7 +38,7 @@ mapped-unread : {A : Type 0} (f : Move → A) → ((m : Move) → f (fromZero m)
 mapped-unread f unread [] = refl
 mapped-unread f unread (m ∷ xs) = ap₂ _∷_ (unread m) (mapped-unread f unread xs)
 
-common-unread : (xs : List Move) → commonSamples (map fromZero xs) ≡ commonSamples xs
+pub common-unread : (xs : List Move) → commonSamples (map fromZero xs) ≡ commonSamples xs
 unfolding commonSamples samplesOf intervalsOf
 common-unread [] = refl
 common-unread (m ∷ xs) = ap (max (ownSamples m)) (common-unread xs)

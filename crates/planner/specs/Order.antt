@@ -22,22 +22,22 @@ FirstToApply n (check refusal applies ∷ xs) = ((applies ≡ true) × (refusal 
 abbrev pub FirstClaim : Type 1
 FirstClaim = (R A : Type 0) (xs : List (Check R)) (x : A) (n : R) → (firstRefusal xs (given x) ≡ refused n) ↔ FirstToApply n xs
 
--- Where a refusal stands among the others: by its number, which is doubled to make room for 14, "after 6 and before 7".
+-- The place of refusals 1 to 10 and 14 among each other: by the number, which is doubled to make room for 14, "after 6 and before 7".
 unfoldable pub rank : (number : ℕ) → ℕ
 rank number = cond (eqb number 14) 13 (2 * number)
 
--- Each check stands above the one before it.
+-- Each check has a greater rank than the one before it.
 abbrev pub Rising : List (Check ℕ) → Type 0
 Rising [] = Unit {0}
 Rising (x ∷ []) = Unit {0}
 Rising (x ∷ y ∷ xs) = (rank (numberOf x) < rank (numberOf y)) × Rising (y ∷ xs)
 
--- If the check applies, it is that of n or stands above it.
+-- If the check applies, its rank is that of n or greater.
 abbrev pub NotBelow : ℕ → Check ℕ → Type 0
 NotBelow n (check number applies) = applies ≡ true → rank n ≤ rank number
 
--- Of checks that rise, as those of refusals 1 to 10 and 14 do: none that applies stands below the one that is given. That this one applies
--- is `FirstClaim`.
+-- Of checks that rise, as those of refusals 1 to 10 and 14 do: none that applies has a lower rank than the one that is given. That this one
+-- applies is `FirstClaim`.
 abbrev pub LowestClaim : Type 1
 LowestClaim = (A : Type 0) (xs : List (Check ℕ)) (x : A) (n : ℕ) → Rising xs → firstRefusal xs (given x) ≡ refused n → Each (NotBelow n) xs
 

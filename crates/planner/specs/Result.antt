@@ -13,7 +13,8 @@ pub data Result (R A : Type 0) : Type 0 where
 pub data Check (R : Type 0) : Type 0 where
   check : (refusal : R) (applies : Bool) → Check R
 
--- "Where several apply, the lowest number is given": the checks stand in the order in which they are given, and o is left where none applies.
+-- "Where several apply, the lowest number is given": the checks stand in the order in which they are asked, and o is left where
+-- none applies.
 unfoldable pub firstRefusal : {R A : Type 0} → List (Check R) → (o : Result R A) → Result R A
 firstRefusal [] o = o
 firstRefusal (check refusal true ∷ xs) o = refused refusal

@@ -34,7 +34,7 @@ pub record StartAddsClaim (m : Move) : Type 0 where
   pub third : ThirdAccepted m ↔ (ThirdAccepted (fromZero m) × EndsInSpan m)
   pub axis : AcceptedAxis m ↔ (AcceptedAxis (fromZero m) × EndsInSpan m)
 
--- "Earlier calls and all sheets mean start 0": there 14 is never given.
+-- "Earlier calls and all sheets mean start 0": no plan is refused with 14 there. The other entries ask what the plan asks, and no other 14.
 pub record NeverFourteenClaim : Type 0 where
   pub fourth : (m : Move) → Plans (fromZero m) (refused 14) → ⊥
   pub third : (m : Move) → PlansThird (fromZero m) (refused 14) → ⊥
