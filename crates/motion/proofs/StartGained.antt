@@ -17,7 +17,7 @@ use Rattle.planner.proofs.OnePlan.{common-unread}
 use Rattle.motion.specs.Sampling.{Values, valuesOf, thirdValuesOf, unitsOf, fromStart, Motion, fourthOrder, thirdOrder, Samples}
 use Rattle.motion.specs.Tables.{referenceRow, FillsPositions, FillsReference}
 use Rattle.motion.specs.Axes.{restSample, axisValues, SamplesAxes}
-use Rattle.motion.specs.StartClaims.{gained, Gained, GainedClaim}
+use Rattle.motion.specs.StartClaims.{gained, GainedClaim}
 use Rattle.motion.specs.declared.Sample.{Sample}
 use Rattle.motion.proofs.IntegerLaws.{exchanged, doubled-sum}
 use Rattle.motion.proofs.RoundingLaws.{rounding-of}
