@@ -33,9 +33,9 @@ static void play(nitswolan_axes axes, uint64_t samples) {
 
 /* The axis that is refused is named by its place, from 1. */
 static void print_refusal(nitswolan_axes_plan_result planned) {
-  printf("set: refused %" PRIu64, planned.refusal);
+  printf("set: refused %" PRIu64 ", %s", planned.refusal, nitswolan_refusal_text(planned.refusal));
   if (planned.place != 0) {
-    printf(", for the %s, axis %" PRIu64, names[planned.place - 1], planned.place);
+    printf(" (the %s, axis %" PRIu64 ")", names[planned.place - 1], planned.place);
   }
   putchar('\n');
 }

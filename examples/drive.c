@@ -5,24 +5,8 @@
 #include <inttypes.h>
 #include <stdio.h>
 
-static const char *refusal_text(uint64_t refusal) {
-  switch (refusal) {
-  case NITSWOLAN_NO_DISPLACEMENT: return "the displacement is 0";
-  case NITSWOLAN_DISPLACEMENT_RANGE: return "the displacement is out of range";
-  case NITSWOLAN_VELOCITY_RANGE: return "the bound on velocity is out of range";
-  case NITSWOLAN_ACCELERATION_RANGE: return "the bound on acceleration is out of range";
-  case NITSWOLAN_JERK_RANGE: return "the bound on jerk is out of range";
-  case NITSWOLAN_SNAP_RANGE: return "the bound on snap is out of range";
-  case NITSWOLAN_TOO_MANY_SAMPLES: return "the move takes too many samples";
-  case NITSWOLAN_SHORT_TABLE: return "the table is too short";
-  case NITSWOLAN_PAST_END: return "the sample is past the end of the move";
-  case NITSWOLAN_START_OR_END_RANGE: return "the start or the end is out of range";
-  default: return "another refusal";
-  }
-}
-
 static void print_refusal(const char *what, uint64_t refusal) {
-  printf("%s: refused %" PRIu64 ", %s\n", what, refusal, refusal_text(refusal));
+  printf("%s: refused %" PRIu64 ", %s\n", what, refusal, nitswolan_refusal_text(refusal));
 }
 
 static int print_plan(nitswolan_move move) {

@@ -5,6 +5,10 @@
 #include <inttypes.h>
 #include <stdio.h>
 
+static void print_refusal(const char *what, uint64_t refusal) {
+  printf("%s: refused %" PRIu64 ", %s\n", what, refusal, nitswolan_refusal_text(refusal));
+}
+
 /* At the tick of sample k a loop would subtract twice the position that it measures from row k: that is its error, in doubled units. A row
  * is behind twice the position by the velocity one sample before. At a steady speed that is half a sample, as late as what is measured. */
 static void print_rows(const int64_t *reference, const int64_t *positions, uint64_t samples) {
@@ -25,7 +29,7 @@ int main(void) {
 
   /* With tables that are long enough for every move, the plan and the positions have no other refusal. */
   if (filled.refusal != 0) {
-    printf("table: refused %" PRIu64 "\n", filled.refusal);
+    print_refusal("table", filled.refusal);
     return 1;
   }
   printf("move: %" PRId64 " counts in %" PRIu64 " samples, %" PRIu64 " rows\n", move.displacement, samples, filled.rows);
@@ -34,7 +38,7 @@ int main(void) {
 
   /* Samples 0 to 12 have thirteen positions, but fourteen rows: nothing is written. */
   filled = nitswolan_fill_reference(move, reference, 13);
-  printf("thirteen places: refused %" PRIu64 "\n", filled.refusal);
+  print_refusal("thirteen places", filled.refusal);
   filled = nitswolan_fill_reference_third(move, reference, 13);
   printf("third order, thirteen places: %" PRIu64 " rows, the last %" PRId64 "\n", filled.rows, reference[12]);
   return 0;

@@ -6,7 +6,7 @@
 #include <stdio.h>
 
 static void print_refusal(const char *what, uint64_t refusal) {
-  printf("%s: refused %" PRIu64 "\n", what, refusal);
+  printf("%s: refused %" PRIu64 ", %s\n", what, refusal, nitswolan_refusal_text(refusal));
 }
 
 static int print_plan(const char *what, nitswolan_move move) {

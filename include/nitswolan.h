@@ -11,19 +11,41 @@
  * after 6 and before 7, and in a set the first axis that is refused before those after it. Calls may run beside each other as long as no
  * table or report buffer of one overlaps what another is lent.
  *
- * A table or a text of length 0 may be NULL; any other pointer is valid for its length and aligned as its type asks. The stack that each
- * function takes stands below. From the C library only memcpy, memmove and memset are used. The archive is for x86-64 Linux.
+ * Bounded are the stack that a call takes and its instructions: the figures of each function stand below. No call waits for anything. From
+ * the C library only memcpy, memmove and memset are used. A table or a text of length 0 may be NULL; any other pointer is valid for its
+ * length and aligned as its type asks. The archive is for x86-64 Linux.
  *
  * nitswolan_fill_force needs the floating-point state that a C program starts with: rounding to nearest, subnormals kept, no exception
  * trapped. A program that is linked with -ffast-math or changes this state gets other forces, or a signal. The others use no floats.
  *
- * A unit is 2^-40 of a count (a "grain"). N is the number of samples that a move takes: the carriage is at rest at sample 0 and from
- * sample N on. In third order a move may take another number than in fourth.
+ * A unit is 2^-40 of a count; document 01 calls it a grain. Positions, bounds and shortfalls are whole numbers of units, displacements and
+ * starts of counts. N is the number of samples that a move takes: the carriage is at rest at sample 0 and from sample N on. In third order
+ * a move may take another number than in fourth.
+ *
+ * From millimetres and seconds, with K counts per millimetre and F samples per second, so that the sample time is 1/F seconds:
+ *
+ *   displacement = mm * K
+ *   velocity     = mm/s   * K * 2^40 / F
+ *   acceleration = mm/s^2 * K * 2^40 / F^2
+ *   jerk         = mm/s^3 * K * 2^40 / F^3
+ *   snap         = mm/s^4 * K * 2^40 / F^4
+ *
+ * The four bounds are rounded down, so that none is passed. With 100 counts per millimetre and a sample each millisecond:
+ *
+ *      300 mm      displacement  30000
+ *      500 mm/s    velocity      54975581388800
+ *     2000 mm/s^2  acceleration  219902325555
+ *    20000 mm/s^3  jerk          2199023255
+ *   400000 mm/s^4  snap          43980465
+ *
+ * That move takes 1003 samples, 1.003 s. examples/units.c computes these numbers.
  *
  * Positions and counts are read from the rail's zero: a move begins at its start count and ends at the start plus the displacement. All
- * else (plans, velocity, acceleration, jerk, snap and forces) is the same from every start that is not refused. To go on where a move
- * ended, send its end count as the start of the next: the start plus the displacement, or the count at sample N, and not the last row
- * divided, which is a count less where there is a shortfall. Then the counts join, and the positions join but for that shortfall.
+ * else (plans, velocity, acceleration, jerk, snap and forces) is the same from every start that is not refused. The last position is the
+ * shortfall, less than half a count, away from 2^40 times the end count, on the side of the start: below it if the displacement is above 0.
+ * So who chains moves adds displacements, and not the table's last row divided by 2^40, which is a count less where there is a shortfall:
+ * the end count, which is also the count at sample N, is the start of the next. Then the counts join, and the positions join but for that
+ * shortfall.
  */
 #ifndef NITSWOLAN_H
 #define NITSWOLAN_H
@@ -34,6 +56,16 @@
 #ifdef __cplusplus
 extern "C" {
 #endif
+
+/* The version, in one place: nitswolan.pc and the shared object's name are made of these lines. The first number rises where a struct, a
+ * signature or the meaning of a row changes, so that a caller must be built again or changed; the second with what is new; the third
+ * otherwise. */
+#define NITSWOLAN_VERSION_MAJOR 1
+#define NITSWOLAN_VERSION_MINOR 0
+#define NITSWOLAN_VERSION_PATCH 0
+#define NITSWOLAN_VERSION_TEXT_(major, minor, patch) #major "." #minor "." #patch
+#define NITSWOLAN_VERSION_TEXT(major, minor, patch) NITSWOLAN_VERSION_TEXT_(major, minor, patch)
+#define NITSWOLAN_VERSION NITSWOLAN_VERSION_TEXT(NITSWOLAN_VERSION_MAJOR, NITSWOLAN_VERSION_MINOR, NITSWOLAN_VERSION_PATCH)
 
 /* Units in a count. */
 #define NITSWOLAN_UNITS_PER_COUNT INT64_C(1099511627776)
@@ -70,23 +102,45 @@ extern "C" {
 #define NITSWOLAN_STACK_READ_SHEET 18112
 #define NITSWOLAN_STACK_REPORT 22976
 
-/* Refusals. */
+/* Refusals. nitswolan_refusal_text has the words. */
 enum {
-  NITSWOLAN_NO_DISPLACEMENT = 1,    /* the displacement is 0; in a set of axes, every one is */
-  NITSWOLAN_DISPLACEMENT_RANGE = 2, /* the displacement is beyond +-1,048,576 counts */
-  NITSWOLAN_VELOCITY_RANGE = 3,     /* the bound on velocity is not in 1 to 2^50; likewise the next three */
+  NITSWOLAN_NO_DISPLACEMENT = 1,
+  NITSWOLAN_DISPLACEMENT_RANGE = 2,
+  NITSWOLAN_VELOCITY_RANGE = 3,
   NITSWOLAN_ACCELERATION_RANGE = 4,
   NITSWOLAN_JERK_RANGE = 5,
-  NITSWOLAN_SNAP_RANGE = 6,         /* never given in third order */
-  NITSWOLAN_TOO_MANY_SAMPLES = 7,   /* N is above 4,096 */
-  NITSWOLAN_SHORT_TABLE = 8,        /* the table has fewer than N+1 places, or N+2 for reference rows and forces */
-  NITSWOLAN_PAST_END = 9,           /* the sample asked for is above N */
-  NITSWOLAN_MACHINE_RANGE = 10,     /* a number of the machine is not finite or out of its range */
-  NITSWOLAN_SHEET_MALFORMED = 11,   /* the sheet is malformed; `line` says where */
-  NITSWOLAN_SHEET_TOO_LONG = 12,    /* the sheet has more than 65,535 bytes */
-  NITSWOLAN_AXIS_COUNT = 13,        /* the count of axes is not 1 to 8 */
-  NITSWOLAN_START_OR_END_RANGE = 14 /* the start, or the start plus the displacement, is beyond +-1,048,576 counts */
+  NITSWOLAN_SNAP_RANGE = 6, /* never given in third order */
+  NITSWOLAN_TOO_MANY_SAMPLES = 7,
+  NITSWOLAN_SHORT_TABLE = 8,
+  NITSWOLAN_PAST_END = 9,
+  NITSWOLAN_MACHINE_RANGE = 10,
+  NITSWOLAN_SHEET_MALFORMED = 11, /* `line` says where */
+  NITSWOLAN_SHEET_TOO_LONG = 12,
+  NITSWOLAN_AXIS_COUNT = 13,
+  NITSWOLAN_START_OR_END_RANGE = 14
 };
+
+/* A refusal in plain words, for a screen or a log; of 0 and of a number that is no refusal it says so. */
+static inline const char *nitswolan_refusal_text(uint64_t refusal) {
+  switch (refusal) {
+  case 0: return "not refused";
+  case NITSWOLAN_NO_DISPLACEMENT: return "the displacement is 0; in a set of axes, every one is";
+  case NITSWOLAN_DISPLACEMENT_RANGE: return "the displacement is more than 1,048,576 counts either way";
+  case NITSWOLAN_VELOCITY_RANGE: return "the bound on velocity is not in 1 to 2^50";
+  case NITSWOLAN_ACCELERATION_RANGE: return "the bound on acceleration is not in 1 to 2^50";
+  case NITSWOLAN_JERK_RANGE: return "the bound on jerk is not in 1 to 2^50";
+  case NITSWOLAN_SNAP_RANGE: return "the bound on snap is not in 1 to 2^50";
+  case NITSWOLAN_TOO_MANY_SAMPLES: return "the move needs more than 4,096 samples";
+  case NITSWOLAN_SHORT_TABLE: return "the table is too short: it needs N+1 places, or N+2 for reference rows and forces";
+  case NITSWOLAN_PAST_END: return "the sample asked for is above N";
+  case NITSWOLAN_MACHINE_RANGE: return "a number of the machine is not finite or not in 0 to 2^20, or its stiffness is below 2^-20";
+  case NITSWOLAN_SHEET_MALFORMED: return "the sheet is malformed";
+  case NITSWOLAN_SHEET_TOO_LONG: return "the sheet has more than 65,535 bytes";
+  case NITSWOLAN_AXIS_COUNT: return "the count of axes is not 1 to 8";
+  case NITSWOLAN_START_OR_END_RANGE: return "the start, or the start plus the displacement, is beyond 1,048,576 counts either way";
+  default: return "no such refusal";
+  }
+}
 
 /* A move: the displacement in counts; the bounds on the size of velocity, acceleration, jerk and snap in units per sample, per sample
  * squared, cubed and to the fourth; and the start in counts from the rail's zero. The third order does not read `snap`, which may be any
@@ -128,7 +182,8 @@ typedef struct {
 } nitswolan_axes;
 
 /* A plan: N, the intervals a, b, c and e (they sum to N), the size of the snap, which begins in the direction of the displacement, and the
- * shortfall in units. */
+ * shortfall in units. `bottlerun` and nitswolan_report print the paper's durations in their place: p = a, q = b-a, r = c-a-b and
+ * s = e-a-b-c, so that N = 8p+4q+2r+s, and the snap with the sign of the displacement. */
 typedef struct {
   uint64_t refusal;
   uint64_t samples;
