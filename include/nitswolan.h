@@ -102,6 +102,24 @@ extern "C" {
 #define NITSWOLAN_STACK_READ_SHEET 18112
 #define NITSWOLAN_STACK_REPORT 22976
 
+/* The most instructions of the library that a call of each function was found to take, rounded up to a multiple of 100. Found by a search
+ * over inputs, and not proved: docs/BENCHMARKS.md of the sources says how, and what bounds each. Not in them is what memcpy, memmove and
+ * memset take for at most 23,040 bytes in reading a sheet, some 32,500 in a report, 1,152 in planning a set and 2,048 in sampling one; the
+ * other functions call none. */
+#define NITSWOLAN_INSTRUCTIONS_PLAN_MOVE 1600
+#define NITSWOLAN_INSTRUCTIONS_SAMPLE_MOVE 2000
+#define NITSWOLAN_INSTRUCTIONS_FILL_POSITIONS 32600
+#define NITSWOLAN_INSTRUCTIONS_FILL_REFERENCE 30700
+#define NITSWOLAN_INSTRUCTIONS_FILL_FORCE 153800
+#define NITSWOLAN_INSTRUCTIONS_PLAN_AXES 12500
+#define NITSWOLAN_INSTRUCTIONS_SAMPLE_AXES 15900
+#define NITSWOLAN_INSTRUCTIONS_PLAN_THIRD 1000
+#define NITSWOLAN_INSTRUCTIONS_SAMPLE_THIRD 1100
+#define NITSWOLAN_INSTRUCTIONS_FILL_POSITIONS_THIRD 23500
+#define NITSWOLAN_INSTRUCTIONS_FILL_REFERENCE_THIRD 25100
+#define NITSWOLAN_INSTRUCTIONS_READ_SHEET 143500
+#define NITSWOLAN_INSTRUCTIONS_REPORT 591400
+
 /* Refusals. nitswolan_refusal_text has the words. */
 enum {
   NITSWOLAN_NO_DISPLACEMENT = 1,

@@ -11,7 +11,9 @@
 
 enum { FOURTH_MOVES = 25, THIRD_MOVES = 15, DEAR_SAMPLES = 15 };
 
-/* The dearest first; the one after it is refused 7 and the dearest of those. */
+/* Places of fourth_moves: the dearest, the dearest of those refused 7, eight that are planned in different ways, and one with N of 8. */
+enum { DEAREST = 0, DEAREST_REFUSED = 1, DIFFERENT = 4, SHORTEST = 14 };
+
 extern const nitswolan_move fourth_moves[FOURTH_MOVES];
 extern const nitswolan_move third_moves[THIRD_MOVES];
 extern const uint64_t dear_samples[DEAR_SAMPLES];

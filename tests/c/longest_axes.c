@@ -6,16 +6,18 @@ enum { SETS = 8 };
 /* An axis at rest. */
 static const nitswolan_move rest = {0, 1, 1, 1, 1, 0};
 
-/* An axis of set k. All axes are the dearest move in set 0, which is the dearest set: all are planned and then raised. */
+/* An axis of set k. In set 0, the dearest, every axis is the dearest move: each is planned, and then raised. */
 static nitswolan_move axis(size_t k, size_t place) {
-  const nitswolan_move dearest = fourth_moves[0];
+  const nitswolan_move dearest = fourth_moves[DEAREST];
+  const nitswolan_move shortest = fourth_moves[SHORTEST];
+  const int last = place + 1 == NITSWOLAN_MOST_AXES;
   switch (k) {
-  case 1: return place < 7 ? dearest : fourth_moves[1]; /* the last is refused 7 */
-  case 2: return place < 7 ? dearest : rest;
+  case 1: return last ? fourth_moves[DEAREST_REFUSED] : dearest; /* seven are planned for nothing */
+  case 2: return last ? rest : dearest;
   case 3: return place == 0 ? rest : dearest;
-  case 4: return fourth_moves[place + 4]; /* planned in all ways, with different N */
-  case 5: return place == 7 ? dearest : fourth_moves[14]; /* seven short ones are raised to the last */
-  case 6: return place == 7 ? fourth_moves[14] : rest;
+  case 4: return fourth_moves[DIFFERENT + place];
+  case 5: return last ? dearest : shortest; /* seven are raised from N of 8 */
+  case 6: return last ? shortest : rest;
   case 7: return rest;
   default: return dearest;
   }

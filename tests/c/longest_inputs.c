@@ -43,7 +43,7 @@ const nitswolan_move fourth_moves[FOURTH_MOVES] = {
 const nitswolan_move third_moves[THIRD_MOVES] = {
   /* Dearest. The distance decides that b is 1,024, and by it c and e: five searches take 11 or 12 steps, and the sixth none. */
   {-1, 512 * SQUARE, MOST_BOUND, 512, 0, 0},
-  /* The same with b of 2,048, so that N is above 4,096. */
+  /* The same with b of 2,049, so that N is above 4,096. */
   {1174, UINT64_C(498042010680236), UINT64_C(307898182766699), 75108, 0, 0},
   {73895, UINT64_C(635607981215330), UINT64_C(6948862954167), 37892690, 0, 0},
   /* With the durations q, r, and both. */

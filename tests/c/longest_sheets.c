@@ -7,7 +7,7 @@
 #define NINES "9999999999999999999"
 #define MOST_SET NINES " " NINES " " NINES " " NINES "\n"
 
-enum { LONGEST_READ = 65535 };
+enum { LONGEST_READ = 65535, CUTS = 10 };
 
 static char text[LONGEST_READ + 1];
 
@@ -28,7 +28,7 @@ static size_t put_moves(char *from, int64_t displacement) {
   return (size_t)(end - text);
 }
 
-/* The longest sheet, 7,431 bytes. After them the text goes on, and has bytes enough for a sheet that is not read. */
+/* The longest sheet, 7,431 bytes. The text goes on after it, beyond what is read. */
 static size_t put_longest(void) {
   const size_t length = put_moves(put_sets(MOST_SET), -INT64_MAX);
   for (size_t k = length; k < sizeof text; k++) {
@@ -44,18 +44,16 @@ static size_t put_sheet(nitswolan_move move) {
   return put_moves(put_sets(last), move.displacement);
 }
 
-/* The longest sheet; with a byte more, which takes most; as long as is read; longer; and with ever fewer bytes. */
-static size_t cut(size_t longest, size_t k) {
-  const size_t lengths[] = {longest, longest + 1, LONGEST_READ, LONGEST_READ + 1, longest - 1, longest - 2, longest - 3, longest / 2, 0};
-  return k < LENGTH(lengths) ? lengths[k] : 1;
+/* How much of the text is sent: the longest sheet; a byte more, which takes most to read; as much as is read at all; more; and less. */
+static size_t cut(size_t sheet, size_t k) {
+  const size_t lengths[CUTS] = {sheet, sheet + 1, LONGEST_READ, LONGEST_READ + 1, sheet - 1, sheet - 2, sheet - 3, sheet / 2, 1, 0};
+  return lengths[k];
 }
 
-enum { CUTS = 10 };
-
 void call_read_sheet(void) {
-  const size_t longest = put_longest();
+  const size_t sheet = put_longest();
   for (size_t k = 0; k < CUTS; k++) {
-    CALL(nitswolan_read_sheet((const uint8_t *)text, cut(longest, k)));
+    CALL(nitswolan_read_sheet((const uint8_t *)text, cut(sheet, k)));
   }
 }
 
@@ -63,9 +61,9 @@ static nitswolan_report_buffer report;
 
 /* Of the longest sheet every move is refused 2. */
 static void report_longest(void) {
-  const size_t longest = put_longest();
+  const size_t sheet = put_longest();
   for (size_t k = 0; k < CUTS; k++) {
-    CALL(nitswolan_report((const uint8_t *)text, cut(longest, k), &report));
+    CALL(nitswolan_report((const uint8_t *)text, cut(sheet, k), &report));
   }
 }
 
