@@ -4,13 +4,6 @@ DESTDIR ?=
 SHEET ?= examples/farm.sheet
 TIMES ?= 10
 SEED ?=
-# The move of `figure` and `samples`: the README's. Not from the environment, where one letter may mean anything.
-X = 800
-V = 16492674416640
-A = 738734374912
-J = 75161927680
-S = 19327352832
-START = 0
 OUT =
 
 archive = target/staticlib/libnitswolan.a
@@ -54,11 +47,19 @@ uninstall: ## removes what both install
 clean: ## removes all that was built
 	rm -rf target reference/target
 
+# The README's move, where no other is named. Not from the environment, where one letter may mean anything.
+figure samples: export X = 800
+figure samples: export V = 16492674416640
+figure samples: export A = 738734374912
+figure samples: export J = 75161927680
+figure samples: export S = 19327352832
+figure samples: export START = 0
+
 figure: $(profile) ## draws a move as SVG: X, START in counts, V, A, J, S in units; OUT=FILE names the file
-	@tools/write "$${OUT:-target/figure.svg}" $(profile) figure "$(X)" "$(V)" "$(A)" "$(J)" "$(S)" "$(START)"
+	@tools/write "$${OUT:-target/figure.svg}" $(profile) figure "$$X" "$$V" "$$A" "$$J" "$$S" "$$START"
 
 samples: $(profile) ## writes its samples as CSV, likewise
-	@tools/write "$${OUT:-target/samples.csv}" $(profile) samples "$(X)" "$(V)" "$(A)" "$(J)" "$(S)" "$(START)"
+	@tools/write "$${OUT:-target/samples.csv}" $(profile) samples "$$X" "$$V" "$$A" "$$J" "$$S" "$$START"
 
 test: ## the gate: formats, tests, vectors, the archive against the reference, all proofs
 	@./.ci/run

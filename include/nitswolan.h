@@ -13,7 +13,7 @@
  *
  * Bounded are the stack that a call takes and its instructions: the figures of each function stand below. No call waits for anything. From
  * the C library only memcpy, memmove and memset are used. A table or a text of length 0 may be NULL; any other pointer is valid for its
- * length and aligned as its type asks. The archive is for x86-64 Linux.
+ * length and aligned as its type asks. The archive is for x86-64 Linux; the header needs C99, or C++.
  *
  * nitswolan_fill_force needs the floating-point state that a C program starts with: rounding to nearest, subnormals kept, no exception
  * trapped. A program that is linked with -ffast-math or changes this state gets other forces, or a signal. The others use no floats.
@@ -30,7 +30,8 @@
  *   jerk         = mm/s^3 * K * 2^40 / F^3
  *   snap         = mm/s^4 * K * 2^40 / F^4
  *
- * The four bounds are rounded down, so that none is passed. With 100 counts per millimetre and a sample each millisecond:
+ * The displacement is the nearest count, and the bounds are rounded down, so that none is passed. With 100 counts per millimetre and a
+ * sample each millisecond:
  *
  *      300 mm      displacement  30000
  *      500 mm/s    velocity      54975581388800
@@ -38,7 +39,8 @@
  *    20000 mm/s^3  jerk          2199023255
  *   400000 mm/s^4  snap          43980465
  *
- * That move takes 1003 samples, 1.003 s. examples/units.c computes these numbers.
+ * That move takes 1003 samples, 1.003 s; examples/units.c computes these numbers. Where every bound is reached a move takes
+ * x/v + v/a + a/j + j/s seconds, and it may take 4,096 samples at most: 4.1 s with a sample each millisecond.
  *
  * Positions and counts are read from the rail's zero: a move begins at its start count and ends at the start plus the displacement. All
  * else (plans, velocity, acceleration, jerk, snap and forces) is the same from every start that is not refused. The last position is the
@@ -179,9 +181,11 @@ typedef struct {
   int64_t start;
 } nitswolan_move;
 
-/* A machine of two masses: masses m1 and m2, dampings k1, k2 and k12, each 0 to 2^20, and the stiffness c, 2^-20 to 2^20. The drive is
- * rigid if k12 is 0. Time is in samples and length in units, so a force is a mass times units per sample squared: divide it by
- * NITSWOLAN_UNITS_PER_COUNT for counts. */
+/* A machine of two masses: m1 of the actuator and m2 of the load, the dampings k1 and k2 of each towards ground and k12 between them, each
+ * 0 to 2^20, and the stiffness c between them, 2^-20 to 2^20. The drive is rigid if k12 is 0. Time is in samples and length in units, so a
+ * force is a mass times units per sample squared: divide it by NITSWOLAN_UNITS_PER_COUNT for counts. With K counts per millimetre and F
+ * samples per second: masses in kg, dampings in N s/m divided by F and a stiffness in N/m divided by F^2 give forces which, times
+ * F^2 / (1000 * K * 2^40), are in N. */
 typedef struct {
   double m1;
   double m2;

@@ -37,4 +37,7 @@ void check_longest(checks *tally);
 /* Programs that were written before a move had a start. */
 void check_earlier(checks *tally);
 
+/* Rows as counts. */
+void check_rows_as_counts(checks *tally);
+
 #endif

@@ -11,6 +11,7 @@ int main(void) {
   check_empty(&tally);
   check_longest(&tally);
   check_earlier(&tally);
+  check_rows_as_counts(&tally);
   if (tally.failed > 0) {
     printf("layout: %u of %u checks failed\n", tally.failed, tally.failed + tally.passed);
     return 1;

@@ -20,11 +20,11 @@ static void make_title(const profile *drawn, char *title) {
            drawn->plan.samples);
 }
 
-/* The plan in the paper's durations, as `bottlerun` prints it, since not every stretch has room for its name. */
-static void print_plan(const nitswolan_plan_result *plan) {
+/* The plan as `bottlerun` prints it, in the paper's durations and with the snap's sign, since not every stretch has room for its name. */
+static void print_plan(const nitswolan_plan_result *plan, const char *sign) {
   printf("p %" PRIu64 ", q %" PRIu64, plan->a, plan->b - plan->a);
   printf(", r %" PRIu64 ", s %" PRIu64, plan->c - plan->a - plan->b, plan->e - plan->a - plan->b - plan->c);
-  printf(" · N %" PRIu64 " · snap %" PRIu64 " · shortfall %" PRIu64 " units", plan->samples, plan->snap, plan->shortfall);
+  printf(" · N %" PRIu64 " · snap %s%" PRIu64 " · shortfall %" PRIu64 " units", plan->samples, sign, plan->snap, plan->shortfall);
 }
 
 void draw_figure(const profile *drawn) {
@@ -33,7 +33,7 @@ void draw_figure(const profile *drawn) {
   open_figure(HEIGHT, title);
   printf("<text class=\"title\" x=\"10\" y=\"24\">%s</text>\n", title);
   printf("<text class=\"plan\" x=\"10\" y=\"44\">");
-  print_plan(&drawn->plan);
+  print_plan(&drawn->plan, drawn->move.displacement < 0 ? "-" : "");
   printf("</text>\n");
   draw_segments(&drawn->plan);
   draw_panels(drawn);
