@@ -12,7 +12,7 @@ shared = target/shared/libnitswolan.so
 profile = target/c/profile
 
 # What is proved: the files of these crates, their folders, so that a file that goes is seen too, and the toolchain.
-kit := $(wildcard $(dir $(shell rt doc 2>/dev/null))../KIT-ID)
+kit := $(shell tools/kit)
 crates := $(shell .ci/contracts crates)
 proved = $(shell find $(addprefix crates/,$(1)) -path '*/must-fail' -prune -o -print) crates.txt tools/build $(kit)
 
@@ -85,5 +85,5 @@ $(program): $(call proved,$(crates) bottlerun)
 $(shared): $(archive) include/nitswolan.h
 	@tools/build shared
 
-$(profile): $(wildcard tools/profile/*) include/nitswolan.h $(archive)
+$(profile): $(wildcard tools/profile tools/profile/*) include/nitswolan.h $(archive)
 	@tools/build profile

@@ -23,7 +23,7 @@ static uint64_t in_units(uint64_t value, uint64_t divisor) {
   return quotient;
 }
 
-/* A bound in mm/s, mm/s^2, .. by the power of the second. Rounded down it is not passed; at 0 it is refused, as too small for the samples. */
+/* A bound in mm/s, mm/s^2, .. by the power of the second. Rounded down it is not passed; one that comes to 0 is refused. */
 static uint64_t units_of(uint64_t bound, int power) {
   uint64_t divisor = 1;
   for (int i = 0; i < power; i++) {

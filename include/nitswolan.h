@@ -11,9 +11,9 @@
  * after 6 and before 7, and in a set the first axis that is refused before those after it. Calls may run beside each other as long as no
  * table or report buffer of one overlaps what another is lent.
  *
- * Bounded are the stack that a call takes and its instructions: the figures of each function stand below. No call waits for anything. From
- * the C library only memcpy, memmove and memset are used. A table or a text of length 0 may be NULL; any other pointer is valid for its
- * length and aligned as its type asks. The archive is for x86-64 Linux; the header needs C99, or C++.
+ * Every call ends, and waits for nothing. Below stand, of each function, the stack that it takes at most, and the most instructions that it
+ * was found to take. From the C library only memcpy, memmove and memset are used. A table or a text of length 0 may be NULL; any other
+ * pointer is valid for its length and aligned as its type asks. The archive is for x86-64 Linux; the header needs C99, or C++.
  *
  * nitswolan_fill_force needs the floating-point state that a C program starts with: rounding to nearest, subnormals kept, no exception
  * trapped. A program that is linked with -ffast-math or changes this state gets other forces, or a signal. The others use no floats.
@@ -39,15 +39,15 @@
  *    20000 mm/s^3  jerk          2199023255
  *   400000 mm/s^4  snap          43980465
  *
- * That move takes 1003 samples, 1.003 s; examples/units.c computes these numbers. Where every bound is reached a move takes
- * x/v + v/a + a/j + j/s seconds, and it may take 4,096 samples at most: 4.1 s with a sample each millisecond.
+ * That move takes 1003 samples, 1.003 s; examples/units.c computes these numbers. Where every bound is reached a move takes about
+ * x/v + v/a + a/j + j/s seconds. It may take 4,096 samples at most, 4.1 s with a sample each millisecond.
  *
  * Positions and counts are read from the rail's zero: a move begins at its start count and ends at the start plus the displacement. All
  * else (plans, velocity, acceleration, jerk, snap and forces) is the same from every start that is not refused. The last position is the
  * shortfall, less than half a count, away from 2^40 times the end count, on the side of the start: below it if the displacement is above 0.
- * So who chains moves adds displacements, and not the table's last row divided by 2^40, which is a count less where there is a shortfall:
- * the end count, which is also the count at sample N, is the start of the next. Then the counts join, and the positions join but for that
- * shortfall.
+ * So who chains moves adds displacements, and not the table's last row divided by 2^40, which may be another count where there is a
+ * shortfall: the end count, which is also the count at sample N, is the start of the next. Then the counts join, and the positions join but
+ * for that shortfall.
  */
 #ifndef NITSWOLAN_H
 #define NITSWOLAN_H
@@ -105,9 +105,8 @@ extern "C" {
 #define NITSWOLAN_STACK_REPORT 22976
 
 /* The most instructions of the library that a call of each function was found to take, rounded up to a multiple of 100. Found by a search
- * over inputs, and not proved: docs/BENCHMARKS.md of the sources says how, and what bounds each. Not in them is what memcpy, memmove and
- * memset take for at most 23,040 bytes in reading a sheet, some 32,500 in a report, 1,152 in planning a set and 2,048 in sampling one; the
- * other functions call none. */
+ * over inputs, and not proved: docs/BENCHMARKS.md of the sources says how, what bounds each, and how many bytes the functions for sheets
+ * and sets hand to memcpy, memmove and memset besides. */
 #define NITSWOLAN_INSTRUCTIONS_PLAN_MOVE 1600
 #define NITSWOLAN_INSTRUCTIONS_SAMPLE_MOVE 2000
 #define NITSWOLAN_INSTRUCTIONS_FILL_POSITIONS 32600

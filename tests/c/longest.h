@@ -9,14 +9,14 @@
 
 #define LENGTH(array) (sizeof(array) / sizeof *(array))
 
-enum { FOURTH_MOVES = 25, THIRD_MOVES = 15, DEAR_SAMPLES = 15 };
+enum { FOURTH_MOVES = 25, THIRD_MOVES = 15, COSTLY_SAMPLES = 15 };
 
-/* Places of fourth_moves: the dearest, the dearest of those refused 7, eight that are planned in different ways, and one with N of 8. */
-enum { DEAREST = 0, DEAREST_REFUSED = 1, DIFFERENT = 4, SHORTEST = 14 };
+/* Places of fourth_moves: the costliest, the costliest that is refused 7, eight that are planned in different ways, and one with N of 8. */
+enum { COSTLIEST = 0, COSTLIEST_REFUSED = 1, DIFFERENT = 4, SHORTEST = 14 };
 
 extern const nitswolan_move fourth_moves[FOURTH_MOVES];
 extern const nitswolan_move third_moves[THIRD_MOVES];
-extern const uint64_t dear_samples[DEAR_SAMPLES];
+extern const uint64_t costly_samples[COSTLY_SAMPLES];
 
 void call_plan_move(void);
 void call_sample_move(void);

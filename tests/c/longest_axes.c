@@ -6,20 +6,20 @@ enum { SETS = 8 };
 /* An axis at rest. */
 static const nitswolan_move rest = {0, 1, 1, 1, 1, 0};
 
-/* An axis of set k. In set 0, the dearest, every axis is the dearest move: each is planned, and then raised. */
+/* An axis of set k. In set 0, the costliest, every axis is the costliest move: each is planned, and then raised. */
 static nitswolan_move axis(size_t k, size_t place) {
-  const nitswolan_move dearest = fourth_moves[DEAREST];
+  const nitswolan_move costliest = fourth_moves[COSTLIEST];
   const nitswolan_move shortest = fourth_moves[SHORTEST];
   const int last = place + 1 == NITSWOLAN_MOST_AXES;
   switch (k) {
-  case 1: return last ? fourth_moves[DEAREST_REFUSED] : dearest; /* seven are planned for nothing */
-  case 2: return last ? rest : dearest;
-  case 3: return place == 0 ? rest : dearest;
+  case 1: return last ? fourth_moves[COSTLIEST_REFUSED] : costliest; /* seven are planned for nothing */
+  case 2: return last ? rest : costliest;
+  case 3: return place == 0 ? rest : costliest;
   case 4: return fourth_moves[DIFFERENT + place];
-  case 5: return last ? dearest : shortest; /* seven are raised from N of 8 */
+  case 5: return last ? costliest : shortest; /* seven are raised from N of 8 */
   case 6: return last ? shortest : rest;
   case 7: return rest;
-  default: return dearest;
+  default: return costliest;
   }
 }
 
@@ -44,9 +44,9 @@ void call_plan_axes(void) {
 
 void call_sample_axes(void) {
   nitswolan_axes axes = set(0);
-  for (size_t k = 0; k < SETS * DEAR_SAMPLES; k++) {
-    axes = set(k / DEAR_SAMPLES);
-    CALL(nitswolan_sample_axes(axes, dear_samples[k % DEAR_SAMPLES]));
+  for (size_t k = 0; k < SETS * COSTLY_SAMPLES; k++) {
+    axes = set(k / COSTLY_SAMPLES);
+    CALL(nitswolan_sample_axes(axes, costly_samples[k % COSTLY_SAMPLES]));
   }
   axes.count = NITSWOLAN_MOST_AXES + 1;
   CALL(nitswolan_sample_axes(axes, 0));

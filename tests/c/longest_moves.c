@@ -19,14 +19,14 @@ void call_plan_third(void) {
 }
 
 void call_sample_move(void) {
-  for (size_t k = 0; k < FOURTH_MOVES * DEAR_SAMPLES; k++) {
-    CALL(nitswolan_sample_move(fourth_moves[k / DEAR_SAMPLES], dear_samples[k % DEAR_SAMPLES]));
+  for (size_t k = 0; k < FOURTH_MOVES * COSTLY_SAMPLES; k++) {
+    CALL(nitswolan_sample_move(fourth_moves[k / COSTLY_SAMPLES], costly_samples[k % COSTLY_SAMPLES]));
   }
 }
 
 void call_sample_third(void) {
-  for (size_t k = 0; k < THIRD_MOVES * DEAR_SAMPLES; k++) {
-    CALL(nitswolan_sample_third(third_moves[k / DEAR_SAMPLES], dear_samples[k % DEAR_SAMPLES]));
+  for (size_t k = 0; k < THIRD_MOVES * COSTLY_SAMPLES; k++) {
+    CALL(nitswolan_sample_third(third_moves[k / COSTLY_SAMPLES], costly_samples[k % COSTLY_SAMPLES]));
   }
 }
 
@@ -35,28 +35,28 @@ void call_fill_positions(void) {
   for (size_t k = 0; k < FOURTH_MOVES; k++) {
     CALL(nitswolan_fill_positions(fourth_moves[k], rows, LENGTH(rows)));
   }
-  CALL(nitswolan_fill_positions(fourth_moves[DEAREST], rows, 0));
+  CALL(nitswolan_fill_positions(fourth_moves[COSTLIEST], rows, 0));
 }
 
 void call_fill_reference(void) {
   for (size_t k = 0; k < FOURTH_MOVES; k++) {
     CALL(nitswolan_fill_reference(fourth_moves[k], rows, LENGTH(rows)));
   }
-  CALL(nitswolan_fill_reference(fourth_moves[DEAREST], rows, 0));
+  CALL(nitswolan_fill_reference(fourth_moves[COSTLIEST], rows, 0));
 }
 
 void call_fill_positions_third(void) {
   for (size_t k = 0; k < THIRD_MOVES; k++) {
     CALL(nitswolan_fill_positions_third(third_moves[k], rows, LENGTH(rows)));
   }
-  CALL(nitswolan_fill_positions_third(third_moves[DEAREST], rows, 0));
+  CALL(nitswolan_fill_positions_third(third_moves[COSTLIEST], rows, 0));
 }
 
 void call_fill_reference_third(void) {
   for (size_t k = 0; k < THIRD_MOVES; k++) {
     CALL(nitswolan_fill_reference_third(third_moves[k], rows, LENGTH(rows)));
   }
-  CALL(nitswolan_fill_reference_third(third_moves[DEAREST], rows, 0));
+  CALL(nitswolan_fill_reference_third(third_moves[COSTLIEST], rows, 0));
 }
 
 /* A filtered drive, which takes most; a rigid one; and one that is refused 10 by its last number. */
@@ -70,5 +70,5 @@ void call_fill_force(void) {
   for (size_t k = 0; k < FOURTH_MOVES * LENGTH(machines); k++) {
     CALL(nitswolan_fill_force(fourth_moves[k / LENGTH(machines)], machines[k % LENGTH(machines)], forces, LENGTH(forces)));
   }
-  CALL(nitswolan_fill_force(fourth_moves[DEAREST], machines[0], forces, 0));
+  CALL(nitswolan_fill_force(fourth_moves[COSTLIEST], machines[0], forces, 0));
 }

@@ -43,14 +43,14 @@ int64_t down(const panel *shown, int64_t value);
 /* Hundredths as pixels, without zeros that say nothing. */
 void print_pixels(int64_t hundredths);
 
-/* Units as a decimal of counts, in six digits. */
+/* Units as a decimal of counts, in six digits, or fewer of very small numbers. */
 void print_decimal(uint64_t units);
 
 /* The beginning of a figure of this height, with what it shows in one line, and its end. The title is XML as it stands. */
 void open_figure(int height, const char *title);
 void close_figure(void);
 
-/* The fifteen stretches of constant snap, shaded and named by their durations. */
+/* The fifteen segments of constant snap, shaded and named by their durations. */
 void draw_segments(const nitswolan_plan_result *plan);
 
 /* All panels; and of one panel its frame, the lines of its bound, and its curve. */

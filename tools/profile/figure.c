@@ -20,7 +20,7 @@ static void make_title(const profile *drawn, char *title) {
            drawn->plan.samples);
 }
 
-/* The plan as `bottlerun` prints it, in the paper's durations and with the snap's sign, since not every stretch has room for its name. */
+/* The plan as `bottlerun` prints it, in the paper's durations and with the snap's sign, since not every segment has room for its name. */
 static void print_plan(const nitswolan_plan_result *plan, const char *sign) {
   printf("p %" PRIu64 ", q %" PRIu64, plan->a, plan->b - plan->a);
   printf(", r %" PRIu64 ", s %" PRIu64, plan->c - plan->a - plan->b, plan->e - plan->a - plan->b - plan->c);

@@ -1,4 +1,4 @@
-/* The stretches of constant snap: p, q, p, r, p, q, p, s, p, q, p, r, p, q, p. */
+/* The segments of constant snap: p, q, p, r, p, q, p, s, p, q, p, r, p, q, p. */
 #include "drawing.h"
 
 #include <stdio.h>
@@ -6,7 +6,7 @@
 /* How many there are, and the room in hundredths that a name takes. */
 enum { SEGMENTS = 15, NAME_ROOM = 10 * PIXEL };
 
-/* A stretch from its first sample to its last, in hundredths from the left. */
+/* A segment from its first sample to its last, in hundredths from the left. */
 typedef struct {
   int64_t from;
   int64_t to;
@@ -22,7 +22,7 @@ static uint64_t duration(const nitswolan_plan_result *plan, int number) {
   return number == SEGMENTS / 2 ? plan->e - plan->a - plan->b - plan->c : plan->c - plan->a - plan->b;
 }
 
-/* The places of all stretches; one of duration 0 has no width. */
+/* The places of all segments; one of duration 0 has no width. */
 static void place_segments(const nitswolan_plan_result *plan, segment *segments) {
   uint64_t sample = 0;
   for (int number = 0; number < SEGMENTS; number++) {
@@ -40,7 +40,7 @@ static int64_t middle(const segment *shown) {
   return (shown->from + shown->to) / 2;
 }
 
-/* Whether the nearest stretch on one side, -1 or 1, leaves room for a name in the middle of this one. */
+/* Whether the nearest segment on one side, -1 or 1, leaves room for a name in the middle of this one. */
 static int has_room(const segment *segments, int number, int side) {
   int next = number + side;
   while (next >= 0 && next < SEGMENTS && is_empty(&segments[next])) {
@@ -52,13 +52,13 @@ static int has_room(const segment *segments, int number, int side) {
   return side * (middle(&segments[next]) - middle(&segments[number])) >= NAME_ROOM;
 }
 
-/* Two names that both fit are NAME_ROOM apart: either both stretches are as wide as that, or one of them looked. */
+/* Two names that both fit are NAME_ROOM apart: either both segments are as wide as that, or one of them looked. */
 static int name_fits(const segment *segments, int number) {
   const segment *named = &segments[number];
   return named->to - named->from >= NAME_ROOM || (has_room(segments, number, -1) && has_room(segments, number, 1));
 }
 
-/* Shades a stretch in which the snap is not 0. */
+/* Shades a segment in which the snap is not 0. */
 static void draw_shade(const segment *shown) {
   printf("<rect fill=\"#eef2f8\" x=\"");
   print_pixels(shown->from);
