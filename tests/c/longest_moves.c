@@ -30,33 +30,30 @@ void call_sample_third(void) {
   }
 }
 
+typedef nitswolan_table_result (*fill_table)(nitswolan_move move, int64_t *table, size_t places);
+
 /* The last call of a table is refused 8. */
-void call_fill_positions(void) {
-  for (size_t k = 0; k < FOURTH_MOVES; k++) {
-    CALL(nitswolan_fill_positions(fourth_moves[k], rows, LENGTH(rows)));
+static void call_fill(fill_table fill, const nitswolan_move *moves, size_t count) {
+  for (size_t k = 0; k < count; k++) {
+    CALL(fill(moves[k], rows, LENGTH(rows)));
   }
-  CALL(nitswolan_fill_positions(fourth_moves[COSTLIEST], rows, 0));
+  CALL(fill(moves[COSTLIEST], rows, 0));
+}
+
+void call_fill_positions(void) {
+  call_fill(nitswolan_fill_positions, fourth_moves, FOURTH_MOVES);
 }
 
 void call_fill_reference(void) {
-  for (size_t k = 0; k < FOURTH_MOVES; k++) {
-    CALL(nitswolan_fill_reference(fourth_moves[k], rows, LENGTH(rows)));
-  }
-  CALL(nitswolan_fill_reference(fourth_moves[COSTLIEST], rows, 0));
+  call_fill(nitswolan_fill_reference, fourth_moves, FOURTH_MOVES);
 }
 
 void call_fill_positions_third(void) {
-  for (size_t k = 0; k < THIRD_MOVES; k++) {
-    CALL(nitswolan_fill_positions_third(third_moves[k], rows, LENGTH(rows)));
-  }
-  CALL(nitswolan_fill_positions_third(third_moves[COSTLIEST], rows, 0));
+  call_fill(nitswolan_fill_positions_third, third_moves, THIRD_MOVES);
 }
 
 void call_fill_reference_third(void) {
-  for (size_t k = 0; k < THIRD_MOVES; k++) {
-    CALL(nitswolan_fill_reference_third(third_moves[k], rows, LENGTH(rows)));
-  }
-  CALL(nitswolan_fill_reference_third(third_moves[COSTLIEST], rows, 0));
+  call_fill(nitswolan_fill_reference_third, third_moves, THIRD_MOVES);
 }
 
 /* A filtered drive, which takes most; a rigid one; and one that is refused 10 by its last number. */
