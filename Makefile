@@ -14,7 +14,7 @@ profile = target/c/profile
 # What is proved: the files of these crates, their folders, so that a file that goes is seen too, and the toolchain.
 kit := $(shell tools/kit)
 crates := $(shell .ci/contracts crates)
-proved = $(shell find $(addprefix crates/,$(1)) -path '*/must-fail' -prune -o -print) crates.txt tools/build $(kit)
+proved = $(shell find $(addprefix crates/,$(1)) -mindepth 1 \( -name must-fail -o -name out \) -prune -o -print) crates.txt tools/build $(kit)
 
 reference = cargo run --offline --quiet --manifest-path reference/Cargo.toml
 

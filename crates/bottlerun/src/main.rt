@@ -2,14 +2,34 @@
 //
 // A sheet may have 65,535 bytes. One byte more is read, so that the report itself can tell a sheet that is too long. A read that
 // fails counts as the end of the input.
+#![tactic(auto)]
+
+ghost use Rattle.std.specs.Prelude.{◌≤◌, length};
+
 use route_sheet::REPORT_BYTES;
+use std::io;
+use std::io::{Read, Write};
 
 const READ_BYTES: usize = 65536;
 
-fn main() {
+fn main(rt: HostRuntime) -> io::Result<()> {
     let mut text = [0u8; READ_BYTES];
-    let n = io::read_full(0, &mut text);
+    let n = read_full(&mut rt.stdin(), &mut text);
     let mut out = [0u8; REPORT_BYTES];
     let count = route_sheet::report(&text[..n], &mut out);
-    io::write_all(1, &out[..count]);
+    rt.stdout().write_all(&out[..count])
+}
+
+// Reads until `text` is full, the input ends or a read fails, and answers how many bytes it put at the start of `text`.
+fn read_full<R: Read>(input: &mut R, text: &mut [u8]) -> usize
+    ensures { result ≤ length text.new }
+{
+    let mut done = 0;
+    while done < text.len() {
+        match input.read(&mut text[done..]) {
+            Ok(n) if 0 < n => done += n,
+            _ => break,
+        }
+    }
+    done
 }

@@ -5,7 +5,7 @@ use Prim.Native.Nat.{ℕ, suc, ◌*◌}
 use native.Mathlib.Nat.{le_refl, mul_comm}
 use lib.IntN.{ℤ, pos, negsuc, neg_ℤ, ◌*ℤ◌}
 use Rattle.planner.specs.Quantities.{units_per_count, distance, along}
-use Rattle.planner.specs.Intervals.{Intervals, P}
+use Rattle.planner.specs.Intervals.{Intervals}
 use Rattle.planner.specs.Outcome.{distance_of, intervals_of}
 use Rattle.planner.specs.Axes.{raised}
 use Rattle.planner.specs.Third.{third_intervals_of}

@@ -1,7 +1,7 @@
 -- The falling factorials of a sample number as signed numbers, their differences over widths, and that none leaves its range.
 use mathlib.Core.List.{List, [], ◌∷◌}
 use mathlib.Core.Path.{◌≡◌, ap, ◌∙◌}
-use Prim.Native.Nat.{ℕ, zero, suc, ◌+◌, ◌-◌, ◌*◌, ◌^◌, ◌≤◌}
+use Prim.Native.Nat.{ℕ, zero, suc, ◌+◌, ◌-◌, ◌^◌, ◌≤◌}
 use native.Mathlib.Nat.{le_trans, mul-le-mul, pow-suc, pow-zero, pow-le-pow_right}
 use native.Mathlib.Omega.{arith}
 use native.Mathlib.Decide.{dec_le}

@@ -1,6 +1,6 @@
 -- Demand 3 of a move that starts at 0 is what it was before there was a start.
 use mathlib.Core.Path.{◌≡◌, ap, subst, ◌∙◌}
-use Prim.Native.Nat.{ℕ, ◌+◌}
+use Prim.Native.Nat.{ℕ}
 use lib.IntN.{ℤ, pos, ◌+ℤ◌, ◌-ℤ◌, +ℤ_idl, +ℤ_idr}
 use Rattle.planner.specs.declared.Move.{Move}
 use Rattle.motion.specs.Sampling.{units_of}

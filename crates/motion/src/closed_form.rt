@@ -5,7 +5,7 @@ ghost use Rattle.planner.specs.Outcome.{most_samples};
 ghost use Rattle.motion.specs.Inner.ClosedForm.{products_over, difference_of, DifferenceFits, ScaledFits};
 
 // The falling factorials k, k(k−1), k(k−1)(k−2) and k(k−1)(k−2)(k−3), or differences of such.
-#[derive(Drop)]
+#[derive(Clone, Copy)]
 pub(crate) struct Products {
     pub first: i64,
     pub second: i64,

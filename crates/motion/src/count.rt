@@ -19,7 +19,7 @@ pub(crate) fn units_of(start: i64) -> i64
 }
 
 // The nearest count of a distance, and the distance less that count in sub-count units.
-#[derive(Drop)]
+#[derive(Clone, Copy)]
 pub(crate) struct Rounded {
     pub count: i64,
     pub remainder: i64,

@@ -1,5 +1,7 @@
 // One sample of a move, in the fourth or the third order, or of a set of axes, and the tables that the drive and the feedback loop play.
 // Every entry takes the moves' own numbers and plans inside.
+#![tactic(auto)]
+
 mod axes;
 mod closed_form;
 mod count;
@@ -33,7 +35,7 @@ use planner::{MOST_AXES, Move, PlanAnswer, Refusal, ThirdAnswer};
 // The values at a sample: snap, jerk, acceleration, velocity and position in sub-count units, the position to the nearest count, and the
 // remainder, which is the position less that count, in sub-count units too. Halves go away from the start.
 #[repr(C)]
-#[derive(Drop)]
+#[derive(Clone, Copy)]
 pub struct Sample {
     pub snap: i64,
     pub jerk: i64,
@@ -57,7 +59,7 @@ const NO_SAMPLE: Sample = Sample {
 
 // A two-mass machine, in the paper's names: masses m1 and m2, dampings k1, k2 and k12, stiffness c. Time is in samples.
 #[repr(C)]
-#[derive(Drop)]
+#[derive(Clone, Copy)]
 pub struct Machine {
     pub m1: f64,
     pub m2: f64,
@@ -68,7 +70,7 @@ pub struct Machine {
 }
 
 // Refusals 1 to 7, 13 and 14 of the planner, 8, 9 and 10.
-#[derive(Drop)]
+#[derive(Clone, Copy)]
 pub enum MotionRefusal {
     Unplanned(Refusal),
     ShortTable,
@@ -76,28 +78,28 @@ pub enum MotionRefusal {
     MachineRange,
 }
 
-#[derive(Drop)]
+#[derive(Clone, Copy)]
 pub enum SampleAnswer {
     Sampled(Sample),
     Refused(MotionRefusal),
 }
 
 // The refusal with the place of its axis, from 1; 0 where it is the set's as a whole.
-#[derive(Drop)]
+#[derive(Clone, Copy)]
 pub enum AxesSampleAnswer {
     Sampled,
     Refused { place: u64, refusal: MotionRefusal },
 }
 
 // An axis at rest stays at its start. The places after the last axis have zeros, and so have all at a refusal.
-#[derive(Drop)]
+#[derive(Clone, Copy)]
 pub struct AxesSample {
     pub answer: AxesSampleAnswer,
     pub samples: [Sample; MOST_AXES],
 }
 
 // How many rows were written.
-#[derive(Drop)]
+#[derive(Clone, Copy)]
 pub enum TableAnswer {
     Filled(u64),
     Refused(MotionRefusal),

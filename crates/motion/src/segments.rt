@@ -10,7 +10,7 @@ use crate::switched::Levels;
 use planner::{Plan, ThirdPlan};
 
 // The lengths of the segments: the paper's p, q, r and s, and the trailing rows of a table, after the last segment.
-#[derive(Drop)]
+#[derive(Clone, Copy)]
 pub(crate) struct Durations {
     pub p: u64,
     pub q: u64,
@@ -48,7 +48,7 @@ pub(crate) fn third_durations(plan: ThirdPlan, trailing: u64) -> Durations
 }
 
 // So many samples with one level: the snap, or in the third order the jerk.
-#[derive(Drop)]
+#[derive(Clone, Copy)]
 pub(crate) struct Segment {
     pub samples: u64,
     pub level: i64,

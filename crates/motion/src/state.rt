@@ -2,7 +2,7 @@
 ghost use Rattle.std.specs.Prelude.{◌≡◌};
 ghost use Rattle.motion.specs.Inner.Steps.{StepFits, stepped, rest_at, sums_in, with_jerk};
 
-#[derive(Drop)]
+#[derive(Clone, Copy)]
 pub(crate) struct State {
     pub sample: u64,
     pub jerk: i64,

@@ -11,7 +11,7 @@ ghost use Rattle.motion.specs.Inner.InnerSamples.{SameValue};
 use planner::{Plan, ThirdPlan};
 
 // The value in the segments with + and in those with −.
-#[derive(Drop)]
+#[derive(Clone, Copy)]
 pub(crate) struct Levels {
     pub positive: i64,
     pub negative: i64,
@@ -36,7 +36,7 @@ pub(crate) fn levels_of(displacement: i64, size: u64) -> Levels
 }
 
 // A sample inside an interval, counted from the interval's start, and the levels there.
-#[derive(Drop)]
+#[derive(Clone, Copy)]
 struct IntervalSample {
     pub positive: i64,
     pub negative: i64,

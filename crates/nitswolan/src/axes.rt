@@ -9,7 +9,7 @@ use planner::{AxesAnswer, AxesPlan, MOST_AXES, Move, Plan};
 
 // The first `count` moves are the axes of a set. No later one is read.
 #[repr(C)]
-#[derive(Drop)]
+#[derive(Clone, Copy)]
 pub struct Axes {
     pub count: u64,
     pub moves: [Move; MOST_AXES],
@@ -17,7 +17,7 @@ pub struct Axes {
 
 // The common N and the plans, or the refusal with the place of its axis, from 1; 0 where it is the set's as a whole.
 #[repr(C)]
-#[derive(Drop)]
+#[derive(Clone, Copy)]
 pub struct AxesPlanResult {
     pub refusal: u64,
     pub place: u64,
@@ -26,7 +26,7 @@ pub struct AxesPlanResult {
 }
 
 #[repr(C)]
-#[derive(Drop)]
+#[derive(Clone, Copy)]
 pub struct AxesSampleResult {
     pub refusal: u64,
     pub place: u64,

@@ -1,5 +1,7 @@
-// The published C interface: every library entry, with the prefix `nitswolan_`, over structs that C can read. The refusal of an answer is 0
-// where there is none; at a refusal every other field is 0, but for the line of 11 and the place of an axis.
+// The published interface: every library entry, with the prefix `nitswolan_`, over structs that C can read; `nitswolan_c` exports them to C.
+// The refusal of an answer is 0 where there is none; at a refusal every other field is 0, but for the line of 11 and the place of an axis.
+#![tactic(auto)]
+
 mod axes;
 mod plan;
 mod sample;
@@ -34,16 +36,14 @@ pub use table::TableResult;
 pub use third::ThirdPlanResult;
 
 // Plans a move, or names the first refusal that applies.
-#[unsafe(no_mangle)]
-pub extern "C" fn nitswolan_plan_move(m: Move) -> PlanResult
+pub fn nitswolan_plan_move(m: Move) -> PlanResult
     ensures { Answers plan_fields (Plans m) result }
 {
     plan_result(planner::plan_move(m))
 }
 
 // Plans the axes of a set that arrive together, or names the refusal.
-#[unsafe(no_mangle)]
-pub extern "C" fn nitswolan_plan_axes(axes: Axes) -> AxesPlanResult
+pub fn nitswolan_plan_axes(axes: Axes) -> AxesPlanResult
     ensures { Answers axes_plan_fields (PlansSet axes) result }
 {
     let moves = axes.moves;
@@ -51,16 +51,14 @@ pub extern "C" fn nitswolan_plan_axes(axes: Axes) -> AxesPlanResult
 }
 
 // The values of a move at sample k, from 0 to N.
-#[unsafe(no_mangle)]
-pub extern "C" fn nitswolan_sample_move(m: Move, k: u64) -> SampleResult
+pub fn nitswolan_sample_move(m: Move, k: u64) -> SampleResult
     ensures { Answers sample_fields (Samples (fourth_order m) k) result }
 {
     sample_result(motion::sample_move(m, k))
 }
 
 // The values of the axes of a set at sample k, from 0 to the common N.
-#[unsafe(no_mangle)]
-pub extern "C" fn nitswolan_sample_axes(axes: Axes, k: u64) -> AxesSampleResult
+pub fn nitswolan_sample_axes(axes: Axes, k: u64) -> AxesSampleResult
     ensures { Answers axes_sample_fields (SamplesSet axes k) result }
 {
     let moves = axes.moves;
@@ -68,72 +66,63 @@ pub extern "C" fn nitswolan_sample_axes(axes: Axes, k: u64) -> AxesSampleResult
 }
 
 // Fills a table with the positions of a move at samples 0 to N, for the drive to play.
-#[unsafe(no_mangle)]
-pub extern "C" fn nitswolan_fill_positions(m: Move, table: &mut [i64]) -> TableResult
+pub fn nitswolan_fill_positions(m: Move, table: &mut [i64]) -> TableResult
     ensures { Answers table_fields (λ o. FillsPositions (fourth_order m) table.old o table.new) result }
 {
     table_result(motion::fill_positions(m, table))
 }
 
 // Fills a table with the reference rows of a move, 0 to N+1, for the feedback loop, in doubled units.
-#[unsafe(no_mangle)]
-pub extern "C" fn nitswolan_fill_reference(m: Move, table: &mut [i64]) -> TableResult
+pub fn nitswolan_fill_reference(m: Move, table: &mut [i64]) -> TableResult
     ensures { Answers table_fields (λ o. FillsReference (fourth_order m) table.old o table.new) result }
 {
     table_result(motion::fill_reference(m, table))
 }
 
 // Fills a table with the force rows of a move and a machine at rows 0 to N+1, for the drive's feedforward.
-#[unsafe(no_mangle)]
-pub extern "C" fn nitswolan_fill_force(m: Move, machine: Machine, table: &mut [f64]) -> TableResult
+pub fn nitswolan_fill_force(m: Move, machine: Machine, table: &mut [f64]) -> TableResult
     ensures { Answers table_fields (λ o. FillsForce m (machine_of machine) table.old o table.new) result }
 {
     table_result(motion::fill_force(m, machine, table))
 }
 
 // Plans a move in the third order, for drives without a bound on the snap: the move's own is not read.
-#[unsafe(no_mangle)]
-pub extern "C" fn nitswolan_plan_third(m: Move) -> ThirdPlanResult
+pub fn nitswolan_plan_third(m: Move) -> ThirdPlanResult
     ensures { Answers third_plan_fields (PlansThird m) result }
 {
     third_plan_result(planner::plan_third(m))
 }
 
 // The values of a move in the third order at sample k, from 0 to N. The snap is 0.
-#[unsafe(no_mangle)]
-pub extern "C" fn nitswolan_sample_third(m: Move, k: u64) -> SampleResult
+pub fn nitswolan_sample_third(m: Move, k: u64) -> SampleResult
     ensures { Answers sample_fields (Samples (third_order m) k) result }
 {
     sample_result(motion::sample_third(m, k))
 }
 
 // Fills a table with the positions of a move in the third order at samples 0 to N.
-#[unsafe(no_mangle)]
-pub extern "C" fn nitswolan_fill_positions_third(m: Move, table: &mut [i64]) -> TableResult
+pub fn nitswolan_fill_positions_third(m: Move, table: &mut [i64]) -> TableResult
     ensures { Answers table_fields (λ o. FillsPositions (third_order m) table.old o table.new) result }
 {
     table_result(motion::fill_positions_third(m, table))
 }
 
 // Fills a table with the reference rows of a move in the third order, 0 to N+1, in doubled units.
-#[unsafe(no_mangle)]
-pub extern "C" fn nitswolan_fill_reference_third(m: Move, table: &mut [i64]) -> TableResult
+pub fn nitswolan_fill_reference_third(m: Move, table: &mut [i64]) -> TableResult
     ensures { Answers table_fields (λ o. FillsReference (third_order m) table.old o table.new) result }
 {
     table_result(motion::fill_reference_third(m, table))
 }
 
 // Reads the text of a sheet, or names its refusal.
-#[unsafe(no_mangle)]
-pub extern "C" fn nitswolan_read_sheet(text: &[u8]) -> SheetResult
+pub fn nitswolan_read_sheet(text: &[u8]) -> SheetResult
     ensures { Answers sheet_fields (ReadsSheet text.now) result }
 {
     sheet_result(route_sheet::read_sheet(text))
 }
 
 // Puts what `bottlerun` prints of a sheet's text at the start of `out`, and answers how many bytes that is.
-#[unsafe(no_mangle)]
-pub extern "C" fn nitswolan_report(text: &[u8], out: &mut [u8; REPORT_BYTES]) -> usize
+pub fn nitswolan_report(text: &[u8], out: &mut [u8; REPORT_BYTES]) -> usize
     ensures { Reports text.now out.old result out.new }
 {
     route_sheet::report(text, out)

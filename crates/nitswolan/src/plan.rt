@@ -9,7 +9,7 @@ use planner::{Plan, PlanAnswer};
 
 // A plan: N, the intervals a, b, c and e, the size D of the snap, and the shortfall.
 #[repr(C)]
-#[derive(Drop)]
+#[derive(Clone, Copy)]
 pub struct PlanResult {
     pub refusal: u64,
     pub samples: u64,

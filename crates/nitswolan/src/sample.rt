@@ -7,7 +7,7 @@ use motion::SampleAnswer;
 
 // The values at a sample in sub-count units, the position to the nearest count, and the remainder.
 #[repr(C)]
-#[derive(Drop)]
+#[derive(Clone, Copy)]
 pub struct SampleResult {
     pub refusal: u64,
     pub snap: i64,

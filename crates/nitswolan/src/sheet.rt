@@ -8,7 +8,7 @@ use route_sheet::{BoundSet, RouteMove, SheetAnswer, SheetReading, SheetRefusal};
 // How many sets and moves the sheet lists, and the places that hold them. A place that none takes holds zeros. At refusal 11 `line` is
 // the line, from 1; else it is 0.
 #[repr(C)]
-#[derive(Drop)]
+#[derive(Clone, Copy)]
 pub struct SheetResult {
     pub refusal: u64,
     pub line: u64,

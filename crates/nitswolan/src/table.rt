@@ -7,7 +7,7 @@ use motion::TableAnswer;
 
 // How many rows were written, from place 0 on.
 #[repr(C)]
-#[derive(Drop)]
+#[derive(Clone, Copy)]
 pub struct TableResult {
     pub refusal: u64,
     pub rows: u64,

@@ -10,7 +10,7 @@ use planner::{ThirdAnswer, ThirdPlan};
 
 // A third-order plan: N, the intervals b, c and e, the size of the jerk, and the shortfall.
 #[repr(C)]
-#[derive(Drop)]
+#[derive(Clone, Copy)]
 pub struct ThirdPlanResult {
     pub refusal: u64,
     pub samples: u64,

@@ -52,3 +52,5 @@ pub mod SetOfOne
 pub mod StartAdds
 pub mod NeverFourteen
 pub mod OnePlan
+-- Sets of laws that the attributes of functions name.
+pub mod Sets

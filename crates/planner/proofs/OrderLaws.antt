@@ -2,7 +2,7 @@
 use mathlib.Core.Bool.{Bool, true, false, true≢false}
 use mathlib.Core.List.{List, [], ◌∷◌}
 use mathlib.Core.Logic.{inl, inr}
-use mathlib.Core.Path.{◌≡◌, refl, sym, ap}
+use mathlib.Core.Path.{◌≡◌, refl, sym, ap, subst}
 use Prim.Native.Nat.{ℕ, ◌≤◌}
 use native.Mathlib.Nat.{le_refl}
 use native.Mathlib.Omega.{arith}
@@ -35,7 +35,8 @@ pub lowest_given : LowestClaim
 unfolding first_refusal
 lowest_given A [] x n r h = tt
 lowest_given A (check m true ∷ xs) x n r h =
-    let same : m ≡ n = cc in rw (← same) ((λ _. le_refl (rank m), above m m true xs (le_refl (rank m)) r))
+    let same : m ≡ n = cc in
+    subst (λ (k : ℕ). Each (NotBelow k) (check m true ∷ xs)) same (λ _. le_refl (rank m), above m m true xs (le_refl (rank m)) r)
 lowest_given A (check m false ∷ xs) x n r h =
     (λ e. absurd (true≢false (sym e)), lowest_given A xs x n (rising_after (check m false) xs r) h)
 

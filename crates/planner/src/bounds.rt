@@ -14,13 +14,14 @@ pub(crate) fn out_of_range(x: u64) -> bool
     if x == 0 { true } else { MOST_BOUND < x }
 }
 
-#[derive(Drop)]
+#[derive(Clone, Copy)]
 pub(crate) enum BoundsAnswer {
     InRange,
     Refused(Refusal),
 }
 
 // Refusals 3 to 5: the bounds that both orders read.
+#[tactic(auto, unfolding(crate::specs::Inner::Undivided::bounds_result, crate::specs::Result::first_refusal))]
 pub(crate) fn check_bounds_to_jerk(v: u64, acc: u64, j: u64) -> BoundsAnswer
     ensures { bounds_outcome result ≡ bounds_result (bound_checks_to_jerk v acc j) }
 {
@@ -37,6 +38,7 @@ pub(crate) fn check_bounds_to_jerk(v: u64, acc: u64, j: u64) -> BoundsAnswer
 }
 
 // Refusals 3 to 6, for an axis at rest. Of a move 6 is asked where its intervals are found.
+#[tactic(auto, unfolding(crate::specs::Inner::Undivided::bounds_result, crate::specs::Result::first_refusal))]
 pub(crate) fn check_bounds(v: u64, acc: u64, j: u64, s: u64) -> BoundsAnswer
     ensures { bounds_outcome result ≡ bounds_result (bound_checks v acc j s) }
 {

@@ -14,7 +14,7 @@ pub(crate) fn samples_in(x: Plan) -> u64
     x.a + x.b + x.c + x.e
 }
 
-#[derive(Drop)]
+#[derive(Clone, Copy)]
 pub(crate) struct Division {
     pub quotient: u64,
     pub shortfall: u64,

@@ -8,13 +8,14 @@ use crate::span::MOST_COUNTS;
 use crate::{Refusal, UNITS_PER_COUNT};
 
 // The distance W where none of these refusals applies. The bound on the snap is not looked at.
-#[derive(Drop)]
+#[derive(Clone, Copy)]
 pub(crate) enum FiguresAnswer {
     InRange(u64),
     Refused(Refusal),
 }
 
 // The move's numbers come one by one: as a struct they would be copied at each call.
+#[tactic(auto, unfolding(crate::specs::Inner::Undivided::bounds_result, crate::specs::Inner::Undivided::figures_result, crate::specs::Quantities::distance, crate::specs::Result::first_refusal))]
 pub(crate) fn check_figures(x: i64, v: u64, acc: u64, j: u64) -> FiguresAnswer
     ensures { figures_outcome result ≡ figures_result x v acc j }
 {

@@ -16,6 +16,7 @@ pub(crate) const MOST_SAMPLES: u64 = 4096;
 
 // The intervals of a move whose other figures are in range, with all of W still short; or refusal 6, 14 or 7. `outside` tells whether its
 // start or its end is outside the span.
+#[tactic(auto, using(crate::proofs::Sets::within_set), unfolding(crate::specs::Inner::Undivided::undivided_within, crate::specs::Result::first_refusal))]
 fn undivided_in_range(w: u64, v: u64, acc: u64, j: u64, s: u64, outside: bool) -> PlanAnswer
     requires { FiguresToJerk w v acc j }
     ensures { outcome result ≡ undivided_within w v acc j s outside }

@@ -11,7 +11,7 @@ use crate::search::least_interval;
 // A plan has at most 4,096 samples, so a search need tell no numbers from here on apart.
 const CAP: u64 = 4097;
 
-#[derive(Drop)]
+#[derive(Clone, Copy)]
 pub(crate) struct Intervals {
     pub a: u64,
     pub b: u64,

@@ -1,5 +1,7 @@
 // Plans one move of the carriage, in the fourth or the third order, or a set of axes: the intervals, the snap or the jerk, and the
 // shortfall; or the refusal.
+#![tactic(auto)]
+
 mod axes;
 mod bounds;
 mod division;
@@ -36,7 +38,7 @@ pub const MOST_AXES: usize = 8;
 // A move as it is sent: the displacement X in counts, the bounds V, A, J and S on the size of velocity, acceleration, jerk and snap, in
 // sub-count units and samples, and the count at which the move starts.
 #[repr(C)]
-#[derive(Drop)]
+#[derive(Clone, Copy)]
 pub struct Move {
     pub displacement: i64,
     pub velocity: u64,
@@ -48,7 +50,7 @@ pub struct Move {
 
 // The intervals a, b, c and e in samples, the size D of the snap, and the shortfall W−D·P.
 #[repr(C)]
-#[derive(Drop)]
+#[derive(Clone, Copy)]
 pub struct Plan {
     pub a: u64,
     pub b: u64,
@@ -69,7 +71,7 @@ const REST: Plan = Plan {
 };
 
 // Refusals 1 to 7, 13 and 14, in the order of their numbers.
-#[derive(Drop)]
+#[derive(Clone, Copy)]
 pub enum Refusal {
     NoDisplacement,
     DisplacementRange,
@@ -83,7 +85,7 @@ pub enum Refusal {
 }
 
 // A third-order plan: the intervals b, c and e in samples, the size of the jerk, and the shortfall.
-#[derive(Drop)]
+#[derive(Clone, Copy)]
 pub struct ThirdPlan {
     pub b: u64,
     pub c: u64,
@@ -92,33 +94,34 @@ pub struct ThirdPlan {
     pub shortfall: u64,
 }
 
-#[derive(Drop)]
+#[derive(Clone, Copy)]
 pub enum PlanAnswer {
     Planned(Plan),
     Refused(Refusal),
 }
 
-#[derive(Drop)]
+#[derive(Clone, Copy)]
 pub enum ThirdAnswer {
     Planned(ThirdPlan),
     Refused(Refusal),
 }
 
 // The common duration, or the refusal with the place of its axis, from 1; 0 where it is the set's as a whole.
-#[derive(Drop)]
+#[derive(Clone, Copy)]
 pub enum AxesAnswer {
     Planned { samples: u64 },
     Refused { place: u64, refusal: Refusal },
 }
 
 // An axis at rest has zeros, and so have the places after the last axis, and all at a refusal.
-#[derive(Drop)]
+#[derive(Clone, Copy)]
 pub struct AxesPlan {
     pub answer: AxesAnswer,
     pub plans: [Plan; MOST_AXES],
 }
 
 // Plans a move, or names the first refusal that applies.
+#[tactic(auto, using(crate::proofs::Sets::move_set))]
 pub fn plan_move(m: Move) -> PlanAnswer
     ensures { Plans m (outcome result) }
 {

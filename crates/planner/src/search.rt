@@ -6,6 +6,7 @@ ghost use Rattle.planner.specs.Inner.Search.{growth, scaled, LeastWithin, Search
 use crate::min_max::{larger, smaller};
 
 // m^d. A match is quicker here than a loop: d is the same in all turns of a search.
+#[tactic(auto, using(crate::proofs::Sets::pow_set))]
 fn power(m: u64, d: u64) -> u64
     requires { (m ≤ 2 ^ 15) × (d ≤ 3) }
     ensures { result ≡ m ^ d }

@@ -13,7 +13,7 @@ const MINUS: u8 = b'-';
 const MOST_DISPLACEMENT: u64 = 9_223_372_036_854_775_807;
 
 // A displacement and the offset after the space that ends it; or there is none to read.
-#[derive(Drop)]
+#[derive(Clone, Copy)]
 pub(crate) enum DisplacementRead {
     Displacement(i64, usize),
     Unread,

@@ -1,4 +1,6 @@
 // A route sheet: its text read into bound sets and moves, and the report of their plans.
+#![tactic(auto)]
+
 mod blank;
 mod displacement;
 mod lines;
@@ -26,7 +28,7 @@ pub const REPORT_BYTES: usize = 32768;
 
 // The bounds V, A, J and S of a set, in sub-count units and samples.
 #[repr(C)]
-#[derive(Drop)]
+#[derive(Clone, Copy)]
 pub struct BoundSet {
     pub velocity: u64,
     pub acceleration: u64,
@@ -36,28 +38,28 @@ pub struct BoundSet {
 
 // A move: its displacement X in counts, and the number of its set, from 1.
 #[repr(C)]
-#[derive(Drop)]
+#[derive(Clone, Copy)]
 pub struct RouteMove {
     pub displacement: i64,
     pub set: u64,
 }
 
 // Refusals 11, with its line, and 12.
-#[derive(Drop)]
+#[derive(Clone, Copy)]
 pub enum SheetRefusal {
     Malformed { line: u64 },
     TooLong,
 }
 
 // How many sets and moves the sheet lists.
-#[derive(Drop)]
+#[derive(Clone, Copy)]
 pub enum SheetAnswer {
     Listed { sets: u64, moves: u64 },
     Refused(SheetRefusal),
 }
 
 // The answer, and the places of the sets and the moves. A place that none takes holds zeros.
-#[derive(Drop)]
+#[derive(Clone, Copy)]
 pub struct SheetReading {
     pub answer: SheetAnswer,
     pub sets: [BoundSet; 16],

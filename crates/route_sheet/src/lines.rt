@@ -12,13 +12,13 @@ use crate::{BoundSet, RouteMove};
 const MOST_NUMBER: u64 = 9_999_999_999_999_999_999;
 
 // A set and the offset after its line; or there is none to read.
-#[derive(Drop)]
+#[derive(Clone, Copy)]
 pub(crate) enum SetRead {
     Set(BoundSet, usize),
     Unread,
 }
 
-#[derive(Drop)]
+#[derive(Clone, Copy)]
 pub(crate) enum MoveRead {
     Move(RouteMove, usize),
     Unread,

@@ -9,7 +9,7 @@ pub(crate) const SPACE: u8 = b' ';
 pub(crate) const LINE_END: u8 = b'\n';
 
 // A number and the offset after the byte that ends it; or there is none to read.
-#[derive(Drop)]
+#[derive(Clone, Copy)]
 pub(crate) enum NumberRead {
     Number(u64, usize),
     Unread,

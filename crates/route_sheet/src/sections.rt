@@ -8,14 +8,14 @@ use crate::lines::{MoveRead, SetRead, read_move, read_set};
 use crate::{BoundSet, RouteMove};
 
 // How many lines were read, the offset after the last of them, and the places with what they hold.
-#[derive(Drop)]
+#[derive(Clone, Copy)]
 pub(crate) struct SetsRead {
     pub done: u64,
     pub next: usize,
     pub sets: [BoundSet; 16],
 }
 
-#[derive(Drop)]
+#[derive(Clone, Copy)]
 pub(crate) struct MovesRead {
     pub done: u64,
     pub next: usize,

@@ -1,6 +1,6 @@
 // A whole sheet: both sections, and nothing after them.
 ghost use Rattle.std.specs.Prelude.{◌≡◌};
-ghost use Rattle.planner.specs.Result as result;
+ghost use Rattle.planner.specs.Result as outcomes;
 ghost use Rattle.route_sheet.specs.Answer.{contents, contents_of, number_and_line};
 ghost use Rattle.route_sheet.specs.Inner.Reading.{read_sections, whole_sheet};
 ghost use Rattle.route_sheet.specs.Inner.Sections.{AllSetsRead, read_after};
@@ -16,7 +16,7 @@ const MOST_MOVES: u64 = 256;
 
 // A refused sheet lists nothing.
 pub(crate) fn refused(refusal: SheetRefusal) -> SheetReading
-    ensures* { λ r. ⌜ contents r ≡ contents_of (result.refused (number_and_line refusal)) ⌝ }
+    ensures { contents result ≡ contents_of (outcomes.refused (number_and_line refusal)) }
 {
     let answer = SheetAnswer::Refused(refusal);
     let sets = zero_sets();
@@ -29,14 +29,14 @@ pub(crate) fn refused(refusal: SheetRefusal) -> SheetReading
 }
 
 fn malformed(line: u64) -> SheetReading
-    ensures* { λ r. ⌜ contents r ≡ contents_of (result.refused (number_and_line (SheetRefusal.Malformed line))) ⌝ }
+    ensures { contents result ≡ contents_of (outcomes.refused (number_and_line (SheetRefusal.Malformed line))) }
 {
     refused(SheetRefusal::Malformed { line })
 }
 
 // Reads a text of any length. A line's number is one more than the lines before it.
 pub(crate) fn read_lines(text: &[u8]) -> SheetReading
-    ensures* { λ r. ⌜ contents r ≡ contents_of (whole_sheet (read_sections text.now)) ⌝ }
+    ensures { contents result ≡ contents_of (whole_sheet (read_sections text.now)) }
 {
     let count = read_number(text, 0, 1, MOST_SETS, LINE_END);
     let NumberRead::Number(sets, next) = count else {
@@ -52,7 +52,7 @@ pub(crate) fn read_lines(text: &[u8]) -> SheetReading
 // Reads on after a first section of which all sets were read.
 fn read_second(text: &[u8], first: SetsRead) -> SheetReading
     requires { AllSetsRead first }
-    ensures* { λ r. ⌜ contents r ≡ contents_of (whole_sheet (read_after first text.now)) ⌝ }
+    ensures { contents result ≡ contents_of (whole_sheet (read_after first text.now)) }
 {
     let sets = first.done;
     let count = read_number(text, first.next, 1, MOST_MOVES, LINE_END);

@@ -4,67 +4,74 @@ use crate::numbers::read_number;
 use crate::writing::{write_byte, write_number, write_refused};
 use motion::{AxesSample, AxesSampleAnswer};
 use planner::{AxesAnswer, AxesPlan, MOST_AXES, Move};
+use std::io;
+use std::io::{Read, Write};
 
-pub(crate) fn answer_axes_plan() {
-    let set = planner::plan_axes(read_number(), read_moves());
+pub(crate) fn answer_axes_plan<R: Read, W: Write>(input: &mut R, out: &mut W) -> io::Result<()> {
+    let count = read_number(input)?;
+    let set = planner::plan_axes(count, read_moves(input)?);
     let answer = set.answer;
     match answer {
         AxesAnswer::Planned { samples } => {
-            io::write_all(1, b"planned");
-            write_number(samples);
+            out.write_all(b"planned")?;
+            write_number(out, samples)?;
         }
         AxesAnswer::Refused { place, refusal } => write_refused_at(
+            out,
             planner::refusal_number(refusal),
             place,
-        ),
+        )?,
     }
-    write_plans(set);
-    write_byte(b'\n');
+    write_plans(out, set)?;
+    write_byte(out, b'\n')
 }
 
-pub(crate) fn answer_axes_sample() {
-    let set = motion::sample_axes(read_number(), read_moves(), read_number());
+pub(crate) fn answer_axes_sample<R: Read, W: Write>(input: &mut R, out: &mut W) -> io::Result<()> {
+    let count = read_number(input)?;
+    let moves = read_moves(input)?;
+    let set = motion::sample_axes(count, moves, read_number(input)?);
     let answer = set.answer;
     match answer {
-        AxesSampleAnswer::Sampled => {
-            io::write_all(1, b"sample");
-        }
+        AxesSampleAnswer::Sampled => out.write_all(b"sample")?,
         AxesSampleAnswer::Refused { place, refusal } => write_refused_at(
+            out,
             motion::refusal_number(refusal),
             place,
-        ),
+        )?,
     }
-    write_samples(set);
-    write_byte(b'\n');
+    write_samples(out, set)?;
+    write_byte(out, b'\n')
 }
 
-fn read_moves() -> [Move; MOST_AXES] {
-    [
-        read_move(),
-        read_move(),
-        read_move(),
-        read_move(),
-        read_move(),
-        read_move(),
-        read_move(),
-        read_move(),
-    ]
+fn read_moves<R: Read>(input: &mut R) -> io::Result<[Move; MOST_AXES]> {
+    Ok([
+        read_move(input)?,
+        read_move(input)?,
+        read_move(input)?,
+        read_move(input)?,
+        read_move(input)?,
+        read_move(input)?,
+        read_move(input)?,
+        read_move(input)?,
+    ])
 }
 
-fn write_refused_at(number: u64, place: u64) {
-    write_refused(number);
-    io::write_all(1, b" place");
-    write_number(place);
+fn write_refused_at<W: Write>(out: &mut W, number: u64, place: u64) -> io::Result<()> {
+    write_refused(out, number)?;
+    out.write_all(b" place")?;
+    write_number(out, place)
 }
 
-fn write_plans(set: AxesPlan) {
+fn write_plans<W: Write>(out: &mut W, set: AxesPlan) -> io::Result<()> {
     for i in 0..MOST_AXES {
-        write_plan(set.plans[i]);
+        write_plan(out, set.plans[i])?;
     }
+    Ok(())
 }
 
-fn write_samples(set: AxesSample) {
+fn write_samples<W: Write>(out: &mut W, set: AxesSample) -> io::Result<()> {
     for i in 0..MOST_AXES {
-        write_sample(set.samples[i]);
+        write_sample(out, set.samples[i])?;
     }
+    Ok(())
 }

@@ -20,6 +20,8 @@
 // at most 4,200, and written from place `first` on, at most 12 places. The n bytes after a line of kind b are the start of a sheet's text,
 // which zeros fill up to its length: n is at most the length, and that at most 65,536. The sum is taken over every place after the call,
 // those of a sheet's sets and moves too. It starts at 0, and each place makes it 33 times itself and the place's 64 bits, modulo 2^64.
+#![tactic(auto)]
+
 mod axes;
 mod forces;
 mod moves;
@@ -36,47 +38,57 @@ use crate::moves::{answer_plan, answer_sample, answer_third_plan};
 use crate::numbers::read_byte;
 use crate::positions::answer_positions;
 use crate::sheets::answer_sheet;
+use std::io;
+use std::io::{BufReader, BufWriter, Read, Write};
+
+// Both ends are buffered, since the requests are read byte by byte.
+fn main(rt: HostRuntime) -> io::Result<()> {
+    let mut input = BufReader::new(rt.alloc(), rt.stdin())?;
+    let mut out = BufWriter::new(rt.alloc(), rt.stdout())?;
+    answer_all(&mut input, &mut out)?;
+    out.flush()
+}
 
 // The count of requests is bounded, so that the loop ends whatever is read.
-fn main() {
-    let mut left = 1_000_000u64;
-    while 0 < left {
-        let kind = read_byte();
+fn answer_all<R: Read, W: Write>(input: &mut R, out: &mut W) -> io::Result<()> {
+    for _ in 0..1_000_000u64 {
+        let kind = read_byte(input)?;
         if kind == 0 {
-            return;
+            return Ok(());
         }
-        answer(kind);
-        left -= 1;
+        answer(input, out, kind)?;
     }
+    Ok(())
 }
 
 // Skips the space after the letter, and answers what is asked for.
-fn answer(kind: u8) {
-    read_byte();
+fn answer<R: Read, W: Write>(input: &mut R, out: &mut W, kind: u8) -> io::Result<()> {
+    read_byte(input)?;
     match kind {
-        b'p' => answer_plan(),
-        b's' => answer_sample(false),
-        b't' | b'r' => answer_positions(kind, false),
-        b'f' => answer_forces(),
-        b'b' => answer_sheet(),
-        b'P' => answer_axes_plan(),
-        b'S' => answer_axes_sample(),
-        b'3' => answer_third(read_byte()),
-        _ => write_unknown(),
+        b'p' => answer_plan(input, out),
+        b's' => answer_sample(input, out, false),
+        b't' | b'r' => answer_positions(input, out, kind, false),
+        b'f' => answer_forces(input, out),
+        b'b' => answer_sheet(input, out),
+        b'P' => answer_axes_plan(input, out),
+        b'S' => answer_axes_sample(input, out),
+        b'3' => answer_third(input, out),
+        _ => write_unknown(out),
     }
 }
 
 // The same in third order, with the letter after the 3.
-fn answer_third(kind: u8) {
-    read_byte();
+fn answer_third<R: Read, W: Write>(input: &mut R, out: &mut W) -> io::Result<()> {
+    let kind = read_byte(input)?;
+    read_byte(input)?;
     match kind {
-        b'p' => answer_third_plan(),
-        b's' => answer_sample(true),
-        b't' | b'r' => answer_positions(kind, true),
-        _ => write_unknown(),
+        b'p' => answer_third_plan(input, out),
+        b's' => answer_sample(input, out, true),
+        b't' | b'r' => answer_positions(input, out, kind, true),
+        _ => write_unknown(out),
     }
 }
 
-fn write_unknown() {
-    io::write_all(1, b"unknown kind\n");
+fn write_unknown<W: Write>(out: &mut W) -> io::Result<()> {
+    out.write_all(b"unknown kind\n")
 }

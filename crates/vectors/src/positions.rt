@@ -6,28 +6,39 @@ use crate::tables::{MOST_PLACES, is_shown, write_rows};
 use crate::writing::write_signed;
 use motion::TableAnswer;
 use planner::Move;
+use std::io;
+use std::io::{Read, Write};
 
 // What each place holds before the call: 2^62, above every row.
 const MARK: i64 = 4_611_686_018_427_387_904;
 
-pub(crate) fn answer_positions(kind: u8, third: bool) {
-    let requested = read_move();
-    let end = at_most(read_number(), MOST_PLACES);
-    let first = read_number() as usize;
+pub(crate) fn answer_positions<R: Read, W: Write>(
+    input: &mut R,
+    out: &mut W,
+    kind: u8,
+    third: bool,
+) -> io::Result<()> {
+    let requested = read_move(input)?;
+    let end = at_most(read_number(input)?, MOST_PLACES);
+    let first = read_number(input)? as usize;
     let mut table = [MARK; MOST_PLACES];
-    let start = 0;
-    write_table(kind, third, requested, &mut table[start..end], first);
+    write_table(out, kind, third, requested, &mut table[..end], first)
 }
 
-fn write_table(kind: u8, third: bool, requested: Move, table: &mut [i64], first: usize) {
-    write_rows(fill(kind, third, requested, table));
+fn write_table<W: Write>(
+    out: &mut W,
+    kind: u8,
+    third: bool,
+    requested: Move,
+    table: &mut [i64],
+    first: usize,
+) -> io::Result<()> {
+    write_rows(out, fill(kind, third, requested, table))?;
     let mut sum = 0u64;
-    let mut i = 0;
-    while i < table.len() {
-        sum = with_place(sum, table[i], is_shown(i, first));
-        i += 1;
+    for i in 0..table.len() {
+        sum = with_place(out, sum, table[i], is_shown(i, first))?;
     }
-    write_sum(sum);
+    write_sum(out, sum)
 }
 
 fn fill(kind: u8, third: bool, requested: Move, table: &mut [i64]) -> TableAnswer {
@@ -47,9 +58,9 @@ fn fill_third_order(kind: u8, requested: Move, table: &mut [i64]) -> TableAnswer
     motion::fill_reference_third(requested, table)
 }
 
-fn with_place(sum: u64, place: i64, shown: bool) -> u64 {
+fn with_place<W: Write>(out: &mut W, sum: u64, place: i64, shown: bool) -> io::Result<u64> {
     if shown {
-        write_signed(place);
+        write_signed(out, place)?;
     }
-    sum_with(sum, twos_complement(place))
+    Ok(sum_with(sum, twos_complement(place)))
 }

@@ -1,16 +1,18 @@
-// What all tables share. They are lent from a local `start` on: then the check finds by itself how long the lent part is.
+// What all tables share.
 use crate::writing::{write_number, write_refused};
 use motion::TableAnswer;
+use std::io;
+use std::io::Write;
 
 // More than the rows of any table.
 pub(crate) const MOST_PLACES: usize = 4200;
 
-pub(crate) fn write_rows(answer: TableAnswer) {
+pub(crate) fn write_rows<W: Write>(out: &mut W, answer: TableAnswer) -> io::Result<()> {
     match answer {
-        TableAnswer::Refused(refusal) => write_refused(motion::refusal_number(refusal)),
+        TableAnswer::Refused(refusal) => write_refused(out, motion::refusal_number(refusal)),
         TableAnswer::Filled(rows) => {
-            io::write_all(1, b"rows");
-            write_number(rows);
+            out.write_all(b"rows")?;
+            write_number(out, rows)
         }
     }
 }

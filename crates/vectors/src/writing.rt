@@ -1,25 +1,21 @@
 // Numbers on standard output, a space before each.
-use planner::magnitude;
+use std::io;
+use std::io::Write;
 
-pub(crate) fn write_byte(byte: u8) {
+pub(crate) fn write_byte<W: Write>(out: &mut W, byte: u8) -> io::Result<()> {
     let place = [byte];
-    io::write_all(1, &place);
+    out.write_all(&place)
 }
 
-pub(crate) fn write_number(n: u64) {
-    write_byte(b' ');
-    io::print_decimal(1, n);
+pub(crate) fn write_number<W: Write>(out: &mut W, n: u64) -> io::Result<()> {
+    write!(out, " {n}")
 }
 
-pub(crate) fn write_signed(n: i64) {
-    write_byte(b' ');
-    if n < 0 {
-        write_byte(b'-');
-    }
-    io::print_decimal(1, magnitude(n));
+pub(crate) fn write_signed<W: Write>(out: &mut W, n: i64) -> io::Result<()> {
+    write!(out, " {n}")
 }
 
-pub(crate) fn write_refused(number: u64) {
-    io::write_all(1, b"refused");
-    write_number(number);
+pub(crate) fn write_refused<W: Write>(out: &mut W, number: u64) -> io::Result<()> {
+    out.write_all(b"refused")?;
+    write_number(out, number)
 }

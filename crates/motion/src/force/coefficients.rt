@@ -5,7 +5,7 @@ ghost use Rattle.motion.specs.Inner.Rows.{AreCoefficients};
 use crate::Machine;
 
 // The paper's q1 to q4.
-#[derive(Drop)]
+#[derive(Clone, Copy)]
 pub(crate) struct Coefficients {
     pub q1: f64,
     pub q2: f64,

@@ -5,7 +5,7 @@ ghost use Rattle.motion.specs.Inner.Rows.{Castable, none_earlier, earlier_next, 
 use crate::state::State;
 
 // What row k needs of the samples before k: the values at k−1 and at k−2.
-#[derive(Drop)]
+#[derive(Clone, Copy)]
 pub(crate) struct Earlier {
     pub snap1: i64,
     pub snap2: i64,
@@ -44,7 +44,7 @@ pub(crate) fn earlier_next(earlier: Earlier, state: State, snap: i64) -> Earlier
 }
 
 // The paper's d2, j2, a2 and v2.
-#[derive(Drop)]
+#[derive(Clone, Copy)]
 pub(crate) struct Doubled {
     pub d2: i64,
     pub j2: i64,

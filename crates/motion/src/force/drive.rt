@@ -6,7 +6,7 @@ ghost use Rattle.motion.specs.Inner.Rows.{drive_kind};
 use crate::Machine;
 
 // Rigid with its stiffness, or filtered with the paper's alpha and beta.
-#[derive(Drop)]
+#[derive(Clone, Copy)]
 pub(crate) enum Drive {
     Rigid(f64),
     Filtered(f64, f64),

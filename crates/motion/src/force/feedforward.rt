@@ -6,7 +6,7 @@ use crate::Machine;
 use crate::force::coefficients::{Coefficients, coefficients_of};
 use crate::force::drive::{Drive, drive_of};
 
-#[derive(Drop)]
+#[derive(Clone, Copy)]
 pub(crate) struct Feedforward {
     pub q: Coefficients,
     pub drive: Drive,

@@ -10,14 +10,14 @@ use crate::force::feedforward::Feedforward;
 use crate::state::{State, at_position, step};
 
 // The paper's u and the force of a row.
-#[derive(Drop)]
+#[derive(Clone, Copy)]
 pub(crate) struct Row {
     pub u: f64,
     pub force: f64,
 }
 
 // Before row k: the state at sample k, the values before it, and the row before.
-#[derive(Drop)]
+#[derive(Clone, Copy)]
 pub(crate) struct RowState {
     pub state: State,
     pub earlier: Earlier,

@@ -1,5 +1,5 @@
 // The table of a plan's force rows.
-ghost use Rattle.std.specs.Prelude.{[], ◌∷◌, ◌+◌, ◌≤◌};
+ghost use Rattle.std.specs.Prelude.{[], ◌∷◌, ◌+◌, ◌≤◌, length};
 ghost use Rattle.motion.specs.ForceRows.Machine.{machine_as_read};
 ghost use Rattle.motion.specs.ForceRows.Force.{force_row};
 ghost use Rattle.motion.specs.Tables.{machine_check};
@@ -19,7 +19,7 @@ use planner::Plan;
 // Writes rows 0 to N+1. The last two are those of samples with no snap.
 fn fill_rows(table: &mut [f64], displacement: i64, plan: Plan, machine: Machine)
     requires plan_in_range { PlanInRange plan }
-    requires* plan_bound { do ⌜ samples_in plan + 2 ≤ (← ⟦table.len()⟧) ⌝ }
+    requires plan_bound { samples_in plan + 2 ≤ length table.old }
     ensures { RowsIn (samples_in plan + 2) (force_row (machine_of machine) (numbers_in displacement plan)) table.old table.new }
 {
     let levels = levels_of(displacement, plan.snap);

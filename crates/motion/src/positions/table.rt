@@ -1,5 +1,5 @@
 // The table of a plan's positions from a start.
-ghost use Rattle.std.specs.Prelude.{[], ◌+◌, ◌≤◌, nat_abs};
+ghost use Rattle.std.specs.Prelude.{[], ◌+◌, ◌≤◌, nat_abs, length};
 ghost use Rattle.planner.specs.Outcome.{most_counts};
 ghost use Rattle.motion.specs.Answer.{table_outcome};
 ghost use Rattle.motion.specs.Inner.Planned.{PlanInRange, samples_in, fourth_values_in, positions_from, RowsIn, WritesRows};
@@ -17,7 +17,7 @@ use planner::Plan;
 fn fill_table(table: &mut [i64], displacement: i64, start: i64, plan: Plan)
     requires plan_in_range { PlanInRange plan }
     requires start_bound { nat_abs start ≤ most_counts }
-    requires* plan_bound { do ⌜ samples_in plan + 1 ≤ (← ⟦table.len()⟧) ⌝ }
+    requires plan_bound { samples_in plan + 1 ≤ length table.old }
     ensures { RowsIn (samples_in plan + 1) (positions_from start (fourth_values_in displacement plan)) table.old table.new }
 {
     let levels = levels_of(displacement, plan.snap);

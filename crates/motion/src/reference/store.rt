@@ -9,14 +9,14 @@ use crate::state::State;
 use crate::third::store::store_with_jerk;
 
 // The sums of the pairs, and the plan's value one sample earlier.
-#[derive(Drop)]
+#[derive(Clone, Copy)]
 pub(crate) struct Paired {
     pub state: State,
     pub before: i64,
 }
 
 // The pairs of a segment: the first has the value of the segment before, and all others have twice their own.
-#[derive(Drop)]
+#[derive(Clone, Copy)]
 struct SegmentPairs {
     pub first: i64,
     pub others: i64,

@@ -1,5 +1,5 @@
 // The table of a plan's reference rows from a start.
-ghost use Rattle.std.specs.Prelude.{[], ◌≡◌, ◌+◌, ◌≤◌, nat_abs, ◌+ℤ◌};
+ghost use Rattle.std.specs.Prelude.{[], ◌≡◌, ◌+◌, ◌≤◌, nat_abs, ◌+ℤ◌, length};
 ghost use Rattle.planner.specs.Outcome.{most_counts};
 ghost use Rattle.motion.specs.Sampling.{units_of};
 ghost use Rattle.motion.specs.Tables.{reference_row};
@@ -39,7 +39,7 @@ fn first_pair(start: i64) -> i64
 
 // Writes the rows of all segments, in either order, where the first row is this one.
 fn fill_pairs(table: &mut [i64], third: bool, first: i64, durations: Durations, levels: Levels)
-    requires* { do ⌜ CanRun (pair_run third) (list_in third durations levels) (paired_rest third first) (← ⟦table.len()⟧) ⌝ }
+    requires { CanRun (pair_run third) (list_in third durations levels) (paired_rest third first) (length table.old) }
     ensures { RanThrough (pair_run third) (list_in third durations levels) (paired_rest third first) table.old table.new }
 {
     let end = segment_count(third);

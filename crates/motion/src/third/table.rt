@@ -1,5 +1,5 @@
 // The table of a third-order plan's positions from a start.
-ghost use Rattle.std.specs.Prelude.{[], ◌+◌, ◌≤◌, nat_abs};
+ghost use Rattle.std.specs.Prelude.{[], ◌+◌, ◌≤◌, nat_abs, length};
 ghost use Rattle.planner.specs.Outcome.{most_counts};
 ghost use Rattle.motion.specs.Answer.{table_outcome};
 ghost use Rattle.motion.specs.Inner.Planned.{ThirdPlanInRange, third_samples_in, third_values_in, positions_from, RowsIn, WritesRows};
@@ -17,7 +17,7 @@ use planner::ThirdPlan;
 fn fill_third(table: &mut [i64], displacement: i64, start: i64, plan: ThirdPlan)
     requires third_plan_in_range { ThirdPlanInRange plan }
     requires start_bound { nat_abs start ≤ most_counts }
-    requires* plan_bound { do ⌜ third_samples_in plan + 1 ≤ (← ⟦table.len()⟧) ⌝ }
+    requires plan_bound { third_samples_in plan + 1 ≤ length table.old }
     ensures { RowsIn (third_samples_in plan + 1) (positions_from start (third_values_in displacement plan)) table.old table.new }
 {
     let levels = levels_of(displacement, plan.jerk);

@@ -13,6 +13,7 @@ use crate::span::ends_outside;
 use crate::{AxesAnswer, AxesPlan, MOST_AXES, Move, PlanAnswer, REST, Refusal};
 
 // Zeros at rest, where refusals 3 to 6 and 14 alone are asked.
+#[tactic(auto, using(crate::proofs::Sets::axis_set))]
 fn undivided_axis(m: Move) -> PlanAnswer
     ensures { outcome result ≡ axis_result m }
 {

@@ -25,6 +25,7 @@ fn raise(x: Plan, samples: u64) -> Plan
 }
 
 // Over all eight places: the compiler then keeps them out of memory.
+#[tactic(auto, using(crate::proofs::Sets::raise_set))]
 pub(crate) fn raise_each(found: AxesPlan, samples: u64) -> AxesPlan
     requires { EachRaisable samples found.plans }
     ensures { (result.answer ≡ found.answer) × (result.plans ≡ map (raised_plan samples) found.plans) }

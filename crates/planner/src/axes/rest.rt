@@ -11,6 +11,7 @@ pub(crate) fn rests(m: Move) -> bool
     magnitude(m.displacement) == 0
 }
 
+#[tactic(auto, using(crate::proofs::Sets::rest_set))]
 pub(crate) fn all_rest(count: usize, moves: [Move; MOST_AXES]) -> bool
     requires { count ≤ most_axes }
     ensures { result ≡ all_at_rest (take count moves) }

@@ -1,0 +1,124 @@
+// The exports that C links: each calls the function of its name in the library, and promises the same.
+#![tactic(auto)]
+
+ghost use Rattle.planner.specs.Outcome.{Plans};
+ghost use Rattle.planner.specs.Third.{PlansThird};
+ghost use Rattle.motion.specs.Answer.{machine_of};
+ghost use Rattle.motion.specs.Tables.{FillsForce, FillsPositions, FillsReference};
+ghost use Rattle.motion.specs.Sampling.{Samples, fourth_order, third_order};
+ghost use Rattle.route_sheet.specs.Answer.{ReadsSheet};
+ghost use Rattle.route_sheet.specs.Report.{Reports};
+ghost use Rattle.nitswolan.specs.Fields.{Answers, plan_fields, sample_fields, sheet_fields, table_fields, third_plan_fields};
+ghost use Rattle.nitswolan.specs.Fields.{PlansSet, SamplesSet, axes_plan_fields, axes_sample_fields};
+
+use motion::Machine;
+use nitswolan::{
+    Axes, AxesPlanResult, AxesSampleResult, PlanResult, SampleResult, SheetResult, TableResult,
+    ThirdPlanResult,
+};
+use planner::Move;
+use route_sheet::REPORT_BYTES;
+
+// Plans a move, or names the first refusal that applies.
+#[unsafe(no_mangle)]
+pub extern "C" fn nitswolan_plan_move(m: Move) -> PlanResult
+    ensures { Answers plan_fields (Plans m) result }
+{
+    nitswolan::nitswolan_plan_move(m)
+}
+
+// Plans the axes of a set that arrive together, or names the refusal.
+#[unsafe(no_mangle)]
+pub extern "C" fn nitswolan_plan_axes(axes: Axes) -> AxesPlanResult
+    ensures { Answers axes_plan_fields (PlansSet axes) result }
+{
+    nitswolan::nitswolan_plan_axes(axes)
+}
+
+// The values of a move at sample k, from 0 to N.
+#[unsafe(no_mangle)]
+pub extern "C" fn nitswolan_sample_move(m: Move, k: u64) -> SampleResult
+    ensures { Answers sample_fields (Samples (fourth_order m) k) result }
+{
+    nitswolan::nitswolan_sample_move(m, k)
+}
+
+// The values of the axes of a set at sample k, from 0 to the common N.
+#[unsafe(no_mangle)]
+pub extern "C" fn nitswolan_sample_axes(axes: Axes, k: u64) -> AxesSampleResult
+    ensures { Answers axes_sample_fields (SamplesSet axes k) result }
+{
+    nitswolan::nitswolan_sample_axes(axes, k)
+}
+
+// Fills a table with the positions of a move at samples 0 to N, for the drive to play.
+#[unsafe(no_mangle)]
+pub extern "C" fn nitswolan_fill_positions(m: Move, table: &mut [i64]) -> TableResult
+    ensures { Answers table_fields (λ o. FillsPositions (fourth_order m) table.old o table.new) result }
+{
+    nitswolan::nitswolan_fill_positions(m, table)
+}
+
+// Fills a table with the reference rows of a move, 0 to N+1, for the feedback loop, in doubled units.
+#[unsafe(no_mangle)]
+pub extern "C" fn nitswolan_fill_reference(m: Move, table: &mut [i64]) -> TableResult
+    ensures { Answers table_fields (λ o. FillsReference (fourth_order m) table.old o table.new) result }
+{
+    nitswolan::nitswolan_fill_reference(m, table)
+}
+
+// Fills a table with the force rows of a move and a machine at rows 0 to N+1, for the drive's feedforward.
+#[unsafe(no_mangle)]
+pub extern "C" fn nitswolan_fill_force(m: Move, machine: Machine, table: &mut [f64]) -> TableResult
+    ensures { Answers table_fields (λ o. FillsForce m (machine_of machine) table.old o table.new) result }
+{
+    nitswolan::nitswolan_fill_force(m, machine, table)
+}
+
+// Plans a move in the third order, for drives without a bound on the snap: the move's own is not read.
+#[unsafe(no_mangle)]
+pub extern "C" fn nitswolan_plan_third(m: Move) -> ThirdPlanResult
+    ensures { Answers third_plan_fields (PlansThird m) result }
+{
+    nitswolan::nitswolan_plan_third(m)
+}
+
+// The values of a move in the third order at sample k, from 0 to N. The snap is 0.
+#[unsafe(no_mangle)]
+pub extern "C" fn nitswolan_sample_third(m: Move, k: u64) -> SampleResult
+    ensures { Answers sample_fields (Samples (third_order m) k) result }
+{
+    nitswolan::nitswolan_sample_third(m, k)
+}
+
+// Fills a table with the positions of a move in the third order at samples 0 to N.
+#[unsafe(no_mangle)]
+pub extern "C" fn nitswolan_fill_positions_third(m: Move, table: &mut [i64]) -> TableResult
+    ensures { Answers table_fields (λ o. FillsPositions (third_order m) table.old o table.new) result }
+{
+    nitswolan::nitswolan_fill_positions_third(m, table)
+}
+
+// Fills a table with the reference rows of a move in the third order, 0 to N+1, in doubled units.
+#[unsafe(no_mangle)]
+pub extern "C" fn nitswolan_fill_reference_third(m: Move, table: &mut [i64]) -> TableResult
+    ensures { Answers table_fields (λ o. FillsReference (third_order m) table.old o table.new) result }
+{
+    nitswolan::nitswolan_fill_reference_third(m, table)
+}
+
+// Reads the text of a sheet, or names its refusal.
+#[unsafe(no_mangle)]
+pub extern "C" fn nitswolan_read_sheet(text: &[u8]) -> SheetResult
+    ensures { Answers sheet_fields (ReadsSheet text.now) result }
+{
+    nitswolan::nitswolan_read_sheet(text)
+}
+
+// Puts what `bottlerun` prints of a sheet's text at the start of `out`, and answers how many bytes that is.
+#[unsafe(no_mangle)]
+pub extern "C" fn nitswolan_report(text: &[u8], out: &mut [u8; REPORT_BYTES]) -> usize
+    ensures { Reports text.now out.old result out.new }
+{
+    nitswolan::nitswolan_report(text, out)
+}
