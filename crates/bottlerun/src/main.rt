@@ -1,7 +1,7 @@
 // Plans the moves of the route sheet on standard input, and prints a line for each.
 //
 // A sheet may have 65,535 bytes. One byte more is read, so that the report itself can tell a sheet that is too long. A read that
-// fails counts as the end of the input.
+// fails counts as the end of the input. A write that fails ends the program with its error, and status 1.
 #![tactic(auto)]
 
 ghost use Rattle.std.specs.Prelude.{◌≤◌, length};

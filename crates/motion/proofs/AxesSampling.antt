@@ -1,4 +1,4 @@
--- What the one_sample entry of a set promises, case by case.
+-- What the one-sample entry of a set promises, case by case.
 use borrow.Author.Tests.{lt-ltb, le-ltb}
 use mathlib.Core.Path.{◌≡◌, refl, sym, ap, subst, ◌∙◌}
 use mathlib.Core.List.{List, [], ◌∷◌}

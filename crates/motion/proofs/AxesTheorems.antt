@@ -1,4 +1,4 @@
--- What else the promise of a set's one_sample entry comes to: when an accepted set is refused, one answer, and the counted moves alone.
+-- What else the promise of a set's one-sample entry comes to: when an accepted set is refused, one answer, and the counted moves alone.
 use mathlib.Core.Logic.Iff
 use mathlib.Core.Path.{◌≡◌, refl, sym, ap, ap₂, ◌∙◌}
 use mathlib.Core.List.{List, [], ◌∷◌}

@@ -29,7 +29,7 @@ module _
     here = any_order a inner c e f.spread D k
 
     pub jerk_bound : nat_abs (v k).jerk ≤ m.jerk
-    jerk_bound = bounded m.displacement _ (w.jerk_is k) here.jerk_size_lem f.jerk
+    jerk_bound = bounded m.displacement _ (w.jerk_is k) here.jerk_size f.jerk
 
     pub acceleration_bound : nat_abs (v k).acceleration ≤ m.acceleration
     acceleration_bound = bounded m.displacement _ (w.acceleration_is k) here.acceleration_size f.acceleration

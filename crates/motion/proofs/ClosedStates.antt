@@ -1,5 +1,5 @@
 -- The sums by the closed form, as the code has them, over any list of widths, each at least the sum of those inside it: none leaves its
--- range, and each is that from rest. The n-th sum has n - 1 of the widths inside; that D-as-P fits is all that is asked of their size.
+-- range, and each is that from rest. The n-th sum has n - 1 of the widths inside; that D·P fits is all that is asked of their size.
 use mathlib.Core.List.{List, [], ◌∷◌, ◌++◌}
 use mathlib.Core.Path.{◌≡◌, sym, ap, subst, ◌∙◌}
 use Prim.Native.Nat.{ℕ, suc, ◌*◌, ◌/◌, ◌^◌, ◌≤◌}

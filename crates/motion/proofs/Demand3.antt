@@ -36,7 +36,7 @@ module _ (x : Motion) (p : Each Passes x.plan_checks) where
   abbrev pub rule_at : ℕ → Sample
   rule_at k = with_rounding x.start (x.values k)
 
-  -- what the one_sample entry gives
+  -- what the one-sample entry gives
   pub sampled : {k : ℕ} {o : Result ℕ Sample} → k ≤ x.samples → Samples x k o → o ≡ given (rule_at k)
   unfolding sample_with
   sampled {k} l h = only_sample x k h ∙ passes x.plan_checks p 9 _ _ (le-ltb x.samples k l)

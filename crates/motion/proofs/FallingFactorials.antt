@@ -1,6 +1,6 @@
 -- The falling factorials of a sample number as signed numbers, their differences over widths, and that none leaves its range.
 use mathlib.Core.List.{List, [], ◌∷◌}
-use mathlib.Core.Path.{◌≡◌, ap, ◌∙◌}
+use mathlib.Core.Path.{◌≡◌, refl, ap, ◌∙◌}
 use Prim.Native.Nat.{ℕ, zero, suc, ◌+◌, ◌-◌, ◌^◌, ◌≤◌}
 use native.Mathlib.Nat.{le_trans, mul-le-mul, pow-suc, pow-zero, pow-le-pow_right}
 use native.Mathlib.Omega.{arith}
@@ -98,6 +98,10 @@ module _ (ws : List ℕ) (room : bound ws ≤ 2 ^ 60) (k l : ℕ) (h : k ≤ mos
 pub record Copies (ws : List ℕ) (k l : ℕ) (x y : Products) : Type 0 where
   pub now : x ≡ products_over ws k
   pub late : y ≡ products_over ws l
+
+-- the differences themselves
+pub copies_at : (ws : List ℕ) (k l : ℕ) → Copies ws k l (products_over ws k) (products_over ws l)
+copies_at ws k l = record { now = refl; late = refl }
 
 module _ {ws : List ℕ} {k l : ℕ} {x y : Products} (both : Copies ws k l x y) where
   pub difference_fits : bound ws ≤ 2 ^ 60 → k ≤ most_samples → l ≤ most_samples → DifferenceFits x y × DifferenceFits y x

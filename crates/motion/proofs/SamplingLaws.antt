@@ -1,4 +1,4 @@
--- What the one_sample entry promises, case by case, in either order.
+-- What the one-sample entry promises, case by case, in either order.
 use mathlib.Core.Path.{◌≡◌, sym, ap, subst, ◌∙◌}
 use Prim.Native.Nat.{ℕ, ◌≤◌, ◌<◌}
 use borrow.Author.Tests.{lt-ltb, le-ltb}

@@ -56,7 +56,7 @@ module _ (count : ℕ) (moves : List Move) (k : ℕ) where
         ≡ axes_places count moves (rest_sample (pos 0))
         (λ m. let v = axis_values (common_samples (counted count moves)) m k in sample_of m.start v (rounding v.position)) o
 
-  -- What the one_sample entry of a set promises of the outcome of its answer, and of the samples beside it.
+  -- What the one-sample entry of a set promises of the outcome of its answer, and of the samples beside it.
   pub record SamplesAxes (o : Result (ℕ × ℕ) (Unit {0})) (samples : List Sample) : Type 0 where
     pub outcome_is : o ≡ axes_sample_result
     pub placed : SamplesPlaced axes_sample_result samples

@@ -29,7 +29,7 @@ abbrev pub AxisExactProfileClaim : Type 0
 AxisExactProfileClaim = (n : ℕ) (m : Move) → Moving m → ExactIn m (raised n (intervals_of m)) (axis_exact n m)
 
 module _ (count : ℕ) (moves : List Move) where
-  -- The set was planned with the common N and these plans, and `samples k` is what its one_sample entry gives at each k.
+  -- The set was planned with the common N and these plans, and `samples k` is what its one-sample entry gives at each k.
   pub record Demand3Axes
       (o : Result (ℕ × ℕ) ℕ) (plans : List Plan) (sample : ℕ → Result (ℕ × ℕ) (Unit {0})) (samples : ℕ → List Sample) : Type 0 where
     pub N : ℕ

@@ -54,7 +54,7 @@ module _ (m : Move) (N P : ℕ) (E : ℕ → ℤ) (at : ℕ → Sample) where
     -- Never turning back: for a positive X, and for a negative one.
     pub forward : pos 0 <ℤ m.displacement → (k : ℕ) → k ≤ N → pos 0 ≤ℤ (at k).velocity
     pub backward : m.displacement <ℤ pos 0 → (k : ℕ) → k ≤ N → (at k).velocity ≤ℤ pos 0
-    -- "The half_count rule reads from the start" (document 02, 7).
+    -- "The half-count rule reads from the start" (document 02, 7).
     pub half_count : HalfCount m.displacement N P E (λ k. (at k).position -ℤ units_of m.start)
     -- The end: "start plus X, is then the count asked for".
     pub jerk_end : (at N).jerk ≡ pos 0
@@ -62,7 +62,7 @@ module _ (m : Move) (N P : ℕ) (E : ℕ → ℤ) (at : ℕ → Sample) where
     pub velocity_end : (at N).velocity ≡ pos 0
     pub count_end : (at N).count ≡ m.start +ℤ m.displacement
 
--- What the two orders share, for the N, P and E of a motion x of the move: `sample` is what the one_sample entry gives at each k, and
+-- What the two orders share, for the N, P and E of a motion x of the move: `sample` is what the one-sample entry gives at each k, and
 -- `table` the position table.
 pub record Demand3Of (m : Move) (x : Motion) (sample : ℕ → Result ℕ Sample) (table : List ℤ) : Type 0 where
   -- The values that the entry gives for each k from 0 to N.
@@ -84,7 +84,7 @@ pub record ThirdDemand3 (m : Move) (sample : ℕ → Result ℕ Sample) (table :
   pub jerk_switched : (k : ℕ) → k ≤ third_samples_of m → (shared.at k).jerk ≡ (third_values_of m k).jerk
   pub snap_none : (k : ℕ) → k ≤ third_samples_of m → (shared.at k).snap ≡ pos 0
 
--- For every accepted move: every function of k that meets the one_sample entry's promise at each k from 0 to N, and every table of at
+-- For every accepted move: every function of k that meets the one-sample entry's promise at each k from 0 to N, and every table of at
 -- least N+1 places that meets the position table's promise.
 abbrev pub Demand3For :
     (Accepts : Move → Type 0) (order : Move → Motion) (Claim : Move → (ℕ → Result ℕ Sample) → List ℤ → Type 0) → Type 0

@@ -21,7 +21,7 @@ module _ (X start : ℤ) (N : ℕ) (at : ℕ → Sample) (table : List ℤ) wher
     pub never_falls : pos 0 <ℤ X → (k : ℕ) → k ≤ N → row k ≤ℤ row (k + 1)
     pub never_rises : X <ℤ pos 0 → (k : ℕ) → k ≤ N → row (k + 1) ≤ℤ row k
 
--- Wherever the one_sample entry gives values for each k from 0 to N, and the reference table's entry fills its table.
+-- Wherever the one-sample entry gives values for each k from 0 to N, and the reference table's entry fills its table.
 abbrev pub ReferenceOf : Move → Motion → Type 0
 ReferenceOf m x =
     (at : ℕ → Sample) → ((k : ℕ) → k ≤ x.samples → Samples x k (given (at k)))

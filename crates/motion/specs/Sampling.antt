@@ -1,4 +1,4 @@
--- Document 01, "The profile": the five values of a sample, and what the one_sample entry gives; document 02, 2: the remainder; 3: the
+-- Document 01, "The profile": the five values of a sample, and what the one-sample entry gives; document 02, 2: the remainder; 3: the
 -- values in the third order; and 7: the start.
 use Rattle.std.specs.Prelude.{List, [], ◌∷◌, ◌++◌, ◌≡◌, ℕ, ◌*◌, ◌≤◌, ◌<◌, ltb, ℤ, pos, nat_abs, ◌+ℤ◌, ◌*ℤ◌}
 use Rattle.planner.specs.Quantities.{units_per_count, along}
@@ -132,7 +132,7 @@ module _ (x : Motion) (k : ℕ) where
   unfoldable pub sample_with : Rounding (x.values k).position → Result ℕ Sample
   sample_with r = first_refusal sample_checks (given (sample_of x.start (x.values k) r))
 
-  -- What the one_sample entry promises of the outcome of its answer.
+  -- What the one-sample entry promises of the outcome of its answer.
   pub record Samples (o : Result ℕ Sample) : Type 0 where
     pub rounding : Rounding (x.values k).position
     pub outcome_is : o ≡ sample_with rounding

@@ -51,7 +51,7 @@ pub record GainedClaim : Type 0 where
       → (i : ℕ) → i < count
       → get_or samples i (rest_sample (pos 0)) ≡ gained (axis_at moves i).start (get_or zeros i (rest_sample (pos 0)))
 
--- What the one_sample entries give of a move at sample k: in the fourth order, in the third, and as an axis of a set.
+-- What the one-sample entries give of a move at sample k: in the fourth order, in the third, and as an axis of a set.
 pub data SampledAt (k : ℕ) : Move → Sample → Type 0 where
   in_fourth : (m : Move) (s : Sample) → Samples (fourth_order m) k (given s) → SampledAt k m s
   in_third : (m : Move) (s : Sample) → Samples (third_order m) k (given s) → SampledAt k m s

@@ -53,7 +53,7 @@ caller_by p m plan h r sample promised old new t room f =
       not_refused = ap (λ (y : TableResult). y.refusal) rows;
       rows_are = omega (arith, n, ap (λ (y : TableResult). y.rows) rows);
       outcome = rule_sample x;
-      sample_fields_lem = λ k l. fields k (omega (arith, l, n));
+      filled_by_outcome = λ k l. fields k (omega (arith, l, n));
       demand_3 = p.demand m a (rule_sample x) (λ k l. rule_samples_lem x k refl) old new f.outcome room' f.promised;
     }
 
@@ -69,6 +69,6 @@ pub last_count :
     → (sample n).count ≡ m.start +ℤ m.displacement
 last_count {n = n} f d =
     ap (λ (y : SampleResult). y.count)
-    (f.sample_fields_lem n (le_refl n) ∙ ap sample_fields (d.answered n (le_of_eq f.samples_are)))
+    (f.filled_by_outcome n (le_refl n) ∙ ap sample_fields (d.answered n (le_of_eq f.samples_are)))
     ∙ ap (λ (k : ℕ). (d.at k).count) f.samples_are
     ∙ d.kept.count_end

@@ -58,7 +58,7 @@ pub record CallerFacts
   pub rows_are : filled.rows ≡ samples + 1
   -- The outcomes that fill the structs of the samples.
   pub outcome : ℕ → Result ℕ Sample
-  pub sample_fields_lem : (k : ℕ) → k ≤ samples → sample k ≡ sample_fields (outcome k)
+  pub filled_by_outcome : (k : ℕ) → k ≤ samples → sample k ≡ sample_fields (outcome k)
   pub demand_3 : Demand outcome table
 
 -- A caller that sees no refusal of the plan and lends more places than its samples gets no other refusal, and demand 3. In one order, whose

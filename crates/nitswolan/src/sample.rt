@@ -1,4 +1,4 @@
-// The one_sample entry's answer for C.
+// The one-sample entry's answer for C.
 ghost use Rattle.std.specs.Prelude.{◌≡◌};
 ghost use Rattle.motion.specs.Answer.{sample_outcome};
 ghost use Rattle.nitswolan.specs.Fields.{sample_fields};

@@ -9,7 +9,7 @@ use Rattle.planner.specs.Intervals.{interval_a, interval_b, interval_c, interval
 use Rattle.planner.specs.Result.{Each}
 use Rattle.planner.specs.Outcome.{distance_of, intervals_of}
 use Rattle.planner.specs.Claims.{InRange, of_move}
-use Rattle.planner.specs.Third.{third_b_lem, third_intervals_of}
+use Rattle.planner.specs.Third.{third_interval_b, third_intervals_of}
 use Rattle.planner.specs.ThirdClaims.{ThirdInRange}
 use Rattle.planner.specs.declared.Move.{Move}
 use Rattle.planner.proofs.Forms.{power_form, linear_form, product_form, square_form, form_least}
@@ -120,7 +120,7 @@ module _ (m : Move) where
   searched_third = searches_third (distance_of m) m.velocity m.acceleration m.jerk
 
   abbrev third_b : ℕ
-  third_b = third_b_lem (distance_of m) m.velocity m.acceleration m.jerk
+  third_b = third_interval_b (distance_of m) m.velocity m.acceleration m.jerk
 
   pub record SixLeast : Type 0 where
     pub b_is : third_b ≡ smallest searched_third
@@ -141,7 +141,7 @@ ten_least m h =
     }
 
 pub six_least : (m : Move) → ThirdInRange m → SixLeast m
-unfolding third_b_lem third_intervals_of
+unfolding third_interval_b third_intervals_of
 six_least m h =
     record {
       b_is = refl;

@@ -46,9 +46,11 @@ module _ {t : ℕ} {reach : ℕ → ℕ} where
         here = λ _. ⊎_elim (λ (q : r ≡ mid). subst (λ (n : ℕ). t ≤ reach n) (sym q) k) w.here (eq-or-lt_of_le w.high);
       }
 
+  -- from any number on that the middle is not far below, so that a wrong start fails where the loop must end
   pub within_right :
-      {lo hi r : ℕ} (mid : ℕ) → Rising reach → lo ≤ mid → reach mid < t → LeastWithin t reach (mid + 1) hi r → LeastWithin t reach lo hi r
-  within_right {lo} {hi} {r} mid up l k w =
+      {lo from hi r : ℕ} (mid : ℕ) → Rising reach → lo ≤ from → from ≤ mid + 1 → reach mid < t → LeastWithin t reach from hi r
+      → LeastWithin t reach lo hi r
+  within_right {lo} {from} {hi} {r} mid up l f k w =
       record {
         low = omega (arith, w.low);
         high = w.high;

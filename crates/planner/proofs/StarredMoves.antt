@@ -10,7 +10,7 @@ use Rattle.planner.specs.Intervals.{interval_a, interval_b, interval_c, interval
 use Rattle.planner.specs.Outcome.{intervals_of, samples_of, outcome_of}
 use Rattle.planner.specs.Result.{Each, Result, refused, given, first_refusal}
 use Rattle.planner.specs.Claims.{Accepted, IsPlanned}
-use Rattle.planner.specs.Third.{third_b_lem, third_intervals_of, third_samples_of}
+use Rattle.planner.specs.Third.{third_interval_b, third_intervals_of, third_samples_of}
 use Rattle.planner.specs.ThirdClaims.{ThirdAccepted}
 use Rattle.planner.specs.Starred.{Columns, refusal, columns, shown, starred, StarredClaim}
 use Rattle.planner.specs.declared.Move.{Move}
@@ -61,7 +61,7 @@ first_accepted = starred_accepted.0 tt
 
 -- in the third order too: its intervals are 1, 2 and 4
 pub first_third_accepted : ThirdAccepted first_starred
-unfolding third_samples_of third_intervals_of third_b_lem c e A₁ V₁ interval_c interval_e least first_from distance
+unfolding third_samples_of third_intervals_of third_interval_b c e A₁ V₁ interval_c interval_e least first_from distance
 first_third_accepted = record { is_in_range = accepted_figures first_starred first_accepted; short_enough = omega arith }
 
 abbrev pub second_starred : Move

@@ -10,7 +10,7 @@ use Rattle.planner.specs.Least.{least}
 use Rattle.planner.specs.Intervals.{interval_b, A₁, c, V₁, e, Intervals}
 use Rattle.planner.specs.Result.{refused, given}
 use Rattle.planner.specs.Outcome.{most_samples}
-use Rattle.planner.specs.Third.{ThirdIntervals, third_b_lem, third_intervals_by, N₃, P₃, jerk_size, third_plan_of}
+use Rattle.planner.specs.Third.{ThirdIntervals, third_interval_b, third_intervals_by, N₃, P₃, jerk_size, third_plan_of}
 use Rattle.planner.specs.Inner.Capped.{later_by, LaterAgree}
 use Rattle.planner.specs.Inner.Capped.{FiguresToJerk}
 use Rattle.planner.specs.Inner.ThirdWithin.{third_within}
@@ -27,15 +27,15 @@ module _ (W V₀ A₀ J₀ : ℕ) where
   t = third_intervals_by W V₀ A₀ J₀
 
   -- the base's rule of b for a = 0 and J₁ = J₀
-  pub base_b : third_b_lem W V₀ A₀ J₀ ≡ interval_b W V₀ A₀ J₀ 0
-  unfolding third_b_lem interval_b
+  pub base_b : third_interval_b W V₀ A₀ J₀ ≡ interval_b W V₀ A₀ J₀ 0
+  unfolding third_interval_b interval_b
   base_b =
       let cubes = sym (power_form (2 * J₀) 2) ∙ product_form (2 * J₀) 0 2 in
       let squares = sym (power_form J₀ 1) ∙ square_form J₀ 0 in
       ap₂ (λ (f g : ℕ → ℕ). min (least W f) (min (least V₀ g) (least A₀ (λ n. J₀ * n)))) cubes squares ∙ omega arith
 
   pub third_ordered : ThirdOrdered t
-  unfolding third_b_lem
+  unfolding third_interval_b
   third_ordered =
       record {
         one_b = one_smallest_b W V₀ A₀ _ _ _;

@@ -17,12 +17,12 @@ pub record ThirdIntervals : Type 0 where
 
 module _ (W V₀ A₀ J₀ : ℕ) where
   -- "b is the smallest of least n with 2·J·n^3 ≥ W, with J·n^2 ≥ V and with J·n ≥ A"
-  unfoldable pub third_b_lem : ℕ
-  third_b_lem = min (least W (λ n. 2 * J₀ * n ^ 3)) (min (least V₀ (λ n. J₀ * n ^ 2)) (least A₀ (λ n. J₀ * n)))
+  unfoldable pub third_interval_b : ℕ
+  third_interval_b = min (least W (λ n. 2 * J₀ * n ^ 3)) (min (least V₀ (λ n. J₀ * n ^ 2)) (least A₀ (λ n. J₀ * n)))
 
   -- "From there c and e follow the base rules with a = 0 and J1 = J."
   abbrev pub third_intervals_by : ThirdIntervals
-  third_intervals_by = record { b = third_b_lem; c = c W V₀ A₀ J₀ 0 third_b_lem; e = e W V₀ A₀ J₀ 0 third_b_lem }
+  third_intervals_by = record { b = third_interval_b; c = c W V₀ A₀ J₀ 0 third_interval_b; e = e W V₀ A₀ J₀ 0 third_interval_b }
 
 module _ (t : ThirdIntervals) where
   -- "N = b+c+e, P = b·c·e"

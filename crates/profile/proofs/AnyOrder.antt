@@ -12,10 +12,10 @@ use Rattle.profile.proofs.ValueLaws.{value_size}
 use Rattle.profile.proofs.SwitchedLaws.{value_rests}
 use Rattle.profile.proofs.WidthLaws.{sum_size, sum_rests, sum_forward, sum_ramp}
 
-jerk_size_lem : (a : ℕ) (inner : List ℕ) (c e : ℕ) → Spread a (e ∷ c ∷ inner) → (D k : ℕ) → nat_abs (jerk_over a inner c e D k) ≤ D * jerk_unit a inner
+jerk_size : (a : ℕ) (inner : List ℕ) (c e : ℕ) → Spread a (e ∷ c ∷ inner) → (D k : ℕ) → nat_abs (jerk_over a inner c e D k) ≤ D * jerk_unit a inner
 unfolding jerk_over jerk_unit sums
-jerk_size_lem a [] c e s D k = rw (mul-one D) (value_size (switched a (e ∷ c ∷ [])) D k)
-jerk_size_lem a (w ∷ inner) c e s D k = sum_size a (e ∷ c ∷ w ∷ []) inner s D k
+jerk_size a [] c e s D k = rw (mul-one D) (value_size (switched a (e ∷ c ∷ [])) D k)
+jerk_size a (w ∷ inner) c e s D k = sum_size a (e ∷ c ∷ w ∷ []) inner s D k
 
 jerk_rests :
     (a : ℕ) (inner : List ℕ) (c e : ℕ) → Spread a (e ∷ c ∷ inner) → (D k : ℕ) → span a (e ∷ c ∷ inner) ≤ k → jerk_over a inner c e D k ≡ pos 0
@@ -28,7 +28,7 @@ module _ (a : ℕ) (inner : List ℕ) (c e : ℕ) (s : Spread a (e ∷ c ∷ inn
   unfolding jerk_over sums
   any_order =
       record {
-        jerk_size_lem = jerk_size_lem a inner c e s D k;
+        jerk_size = jerk_size a inner c e s D k;
         acceleration_size = sum_size a (e ∷ c ∷ []) inner s D k;
         velocity_size = sum_size a (e ∷ []) (c ∷ inner) s D k;
         forward = sum_forward a e (c ∷ inner) s D k;

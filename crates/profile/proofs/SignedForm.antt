@@ -1,4 +1,4 @@
--- The closed form for a signed D: the theorem that the one_sample entries rest on, over any list of widths, each at least the sum of those
+-- The closed form for a signed D: the theorem that the one-sample entries rest on, over any list of widths, each at least the sum of those
 -- inside it.
 use mathlib.Core.Path.{◌≡◌, refl, sym, ap, ◌∙◌, fun_ext}
 use mathlib.Core.List.{List, [], ◌∷◌, ◌++◌}

@@ -41,7 +41,7 @@ module _ (a D : ℕ) (one : 1 ≤ a) where
       pub jerk_most : nat_abs (jerk_over a inner c e D k) ≤ top
       unfolding Spread
       jerk_most =
-          inner_most top _ (c ∷ []) inner s.1 speed (le_trans (any_order a inner c e s D k).jerk_size_lem (unit_most inner s.1.1))
+          inner_most top _ (c ∷ []) inner s.1 speed (le_trans (any_order a inner c e s D k).jerk_size (unit_most inner s.1.1))
 
     -- and the position, where top bounds the last
     module _ (reach : D * product a (e ∷ c ∷ inner) ≤ top) where

@@ -1,4 +1,4 @@
-// Numbers on standard output, a space before each.
+// Numbers that are written, a space before each.
 use std::io;
 use std::io::Write;
 

@@ -16,7 +16,7 @@ module _ (a : ℕ) (inner : List ℕ) (c e D : ℕ) where
 
   -- At every sample, also after the last.
   pub record At (k : ℕ) : Type 0 where
-    pub jerk_size_lem : nat_abs (jerk_over k) ≤ D * jerk_unit a inner
+    pub jerk_size : nat_abs (jerk_over k) ≤ D * jerk_unit a inner
     pub acceleration_size : nat_abs (sum jerk_over k) ≤ D * product a inner
     pub velocity_size : nat_abs (sum (sum jerk_over) k) ≤ D * product a (c ∷ inner)
     pub forward : pos 0 ≤ℤ sum (sum jerk_over) k

@@ -32,7 +32,7 @@ pub record ReadsAs (text : List ℕ) (most : ℕ) (found : Parse ℕ) (r : Numbe
 -- The digits that follow a number `first`, read from an offset on.
 pub record DigitsSpan (first most : ℕ) : Type 0 where
   pub first_most : first ≤ most
-  pub most_number_lem : most ≤ most_number
+  pub within_most_number : most ≤ most_number
 
 abbrev pub ReadsDigits : (text : List ℕ) (from first most end : ℕ) → NumberRead → Type 0
 ReadsDigits text from first most end r = ReadsAs text most (read_digits most end first (drop from text)) r

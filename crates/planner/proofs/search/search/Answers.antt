@@ -29,7 +29,7 @@ loop-from-preserved-then-reached-t c =
     let n = c.loop-from in
     let mid : ℕ = (n.from + n.to) / 2 in
     let short = rw c.power.ensures at c.if-reached-t.true in
-    (omega arith, omega arith, λ r w. n.invariant.2 r (within_right mid (growth_rising a.u a.d) (omega arith) short w))
+    (omega arith, omega arith, λ r w. n.invariant.2 r (within_right mid (growth_rising a.u a.d) (omega arith) (omega arith) short w))
 
 pub loop-from-preserved : goal.loop-from-preserved
 loop-from-preserved c =

@@ -7,7 +7,8 @@ use mir.Syntax.{w64}
 use mir.Val.{to_z, of_z}
 use native.Mathlib.Omega.{arith}
 use lib.ListN.{drop}
-use Rattle.route_sheet.specs.Inner.Reading.{parsed, add_lines, then_read, read_displacement, read_move}
+use Rattle.route_sheet.specs.Text.{line_end}
+use Rattle.route_sheet.specs.Inner.Reading.{parsed, failed, add_lines, then_read, read_number, read_displacement, read_move}
 use Rattle.route_sheet.specs.Inner.Parts.{number_parse, displacement_parse}
 use Rattle.route_sheet.proofs.PartLaws.{as_read}
 use Rattle.route_sheet.proofs.lines.read_move.Goals as goal
@@ -25,7 +26,8 @@ returns-in_default-n c =
     let afterX : ℕ = c.in-Displacement.after_x in
     let first : read_displacement (drop c.args.from text_of)
     ≡ parsed c.in-Displacement.displacement (drop afterX text_of) = as_read (displacement_parse text_of) c.read_displacement-x.ensures c.in-Displacement.is in
-    rw (first, as_read (number_parse text_of) c.read_number-n.ensures.read_is c.in_default-n.is)
+    let second : read_number 1 c.args.sets line_end (drop afterX text_of) ≡ failed 0 = as_read (number_parse text_of) c.read_number-n.ensures.read_is c.in_default-n.is in
+    rw (first, second)
 
 pub returns : goal.returns
 unfolding read_move then_read add_lines
