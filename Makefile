@@ -44,7 +44,7 @@ install-shared: $(shared) ## installs the shared object beside them
 uninstall: ## removes what both install
 	@tools/install remove
 
-clean: ## removes all that was built
+clean: ## removes what make and cargo have built; what rt keeps in crates/*/out stays
 	rm -rf target reference/target
 
 # The README's move, where no other is named. Not from the environment, where one letter may mean anything.

@@ -64,7 +64,7 @@ extern "C" {
  * otherwise. */
 #define NITSWOLAN_VERSION_MAJOR 1
 #define NITSWOLAN_VERSION_MINOR 0
-#define NITSWOLAN_VERSION_PATCH 0
+#define NITSWOLAN_VERSION_PATCH 1
 #define NITSWOLAN_VERSION_TEXT_(major, minor, patch) #major "." #minor "." #patch
 #define NITSWOLAN_VERSION_TEXT(major, minor, patch) NITSWOLAN_VERSION_TEXT_(major, minor, patch)
 #define NITSWOLAN_VERSION NITSWOLAN_VERSION_TEXT(NITSWOLAN_VERSION_MAJOR, NITSWOLAN_VERSION_MINOR, NITSWOLAN_VERSION_PATCH)
@@ -104,9 +104,9 @@ extern "C" {
 #define NITSWOLAN_STACK_READ_SHEET 27392
 #define NITSWOLAN_STACK_REPORT 27584
 
-/* The most instructions of the library that a call of each function was found to take, rounded up to a multiple of 100. Found by a search
- * over inputs, and not proved: docs/BENCHMARKS.md of the sources says how, what bounds each, and how many bytes the functions for sheets
- * and sets hand to memcpy, memmove and memset besides. */
+/* The most instructions of the library that a call of each function was found to take, rounded up to a multiple of 100. Counted over inputs
+ * that a search found in the archive of an older toolchain, and not proved: docs/BENCHMARKS.md of the sources says how, what bounds each,
+ * and how many bytes the functions for sheets and sets hand to memcpy, memmove and memset besides. */
 #define NITSWOLAN_INSTRUCTIONS_PLAN_MOVE 1600
 #define NITSWOLAN_INSTRUCTIONS_SAMPLE_MOVE 2000
 #define NITSWOLAN_INSTRUCTIONS_FILL_POSITIONS 34700
