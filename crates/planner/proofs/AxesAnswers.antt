@@ -1,5 +1,5 @@
 -- What the planner of a set promises, case by case.
-use mathlib.Core.Bool.{true, false, ◌||◌}
+use mathlib.Core.Bool.{Bool, true, false, ◌||◌}
 use mathlib.Core.Path.{◌≡◌, sym, ap, subst, ◌∙◌}
 use mathlib.Core.List.{List, map}
 use Prim.Native.Nat.{ℕ, ◌≤◌}
@@ -15,7 +15,7 @@ use Rattle.planner.specs.declared.Move.{Move}
 use Rattle.planner.specs.declared.Plan.{Plan}
 use Rattle.planner.specs.declared.AxesPlan.{AxesPlan}
 use Rattle.planner.specs.declared.AxesAnswer.TheVariants.{Planned}
-use Rattle.planner.proofs.RefusalLaws.{Passes, stop, skip, passed, passed_same, passed_range}
+use Rattle.planner.proofs.RefusalLaws.{Passes, stop, skip, passed, passed_same, passed_range, range_passes}
 use Rattle.planner.proofs.AxesLaws.{passed_axes, common_most}
 use Rattle.planner.proofs.RaisedLaws.{each_raisable, raised_places}
 
@@ -38,6 +38,16 @@ module _ (count : ℕ) (moves : List Move) where
         → o ≡ axes_result count moves
     unfolding axes_result
     axes_result_lem h q = (skip is_in_range (skip h (record { is = q }))).is
+
+  -- the same of one to eight axes, where `resting` tells whether all are at rest
+  module _ {resting : Bool} (is : resting ≡ all_at_rest axes) (some : 1 ≤ count) (most : count ≤ most_axes) where
+    pub set_at_rest_refused : resting ≡ true → refused (1, 0) ≡ axes_result count moves
+    set_at_rest_refused h = rest_refused (range_passes most_axes count some most) (sym is ∙ h)
+
+    pub moving_set_result :
+        {o : Result (ℕ × ℕ) ℕ} → resting ≡ false → o ≡ first_refusal (checks_from 1 axes) (given (common_samples axes))
+        → o ≡ axes_result count moves
+    moving_set_result h q = axes_result_lem (range_passes most_axes count some most) (sym is ∙ h) q
 
   -- a set that was planned, with the common duration n
   module _ {n : ℕ} (h : given n ≡ axes_result count moves) where

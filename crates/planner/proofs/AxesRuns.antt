@@ -10,10 +10,12 @@ use Rattle.planner.specs.Intervals.{N}
 use Rattle.planner.specs.Result.{Result, refused, given, first_refusal}
 use Rattle.planner.specs.Outcome.{intervals_in}
 use Rattle.planner.specs.Axes.{most_axes, rest_plan, with_place, axis_checks, common_samples, checks_from}
+use Rattle.planner.specs.AxesClaims.{axis_at}
 use Rattle.planner.specs.Inner.AxisAnswers.{undivided_axis, axis_result, each_places}
 use Rattle.planner.specs.declared.Move.{Move}
 use Rattle.planner.specs.declared.Plan.{Plan}
 use Rattle.planner.proofs.RefusalLaws.{passed}
+use Rattle.planner.proofs.CountedLaws.{counted_at, within}
 use Rattle.planner.proofs.AxisLaws.{axis_found, own_is}
 use Rattle.planner.proofs.AxesLaws.{placed_refused, placed_passed, common_next}
 use Rattle.planner.proofs.PaddedLaws.{padded_next}
@@ -62,6 +64,24 @@ module _ {axes : List Move} {plans : List Plan} {samples i : ℕ}
   unfolding axis_result
   found_refused n o h =
       rw (add-one i) (sym (next_checks o ∙ placed_refused (suc i) _ o (axis_checks (get_or axes i d)) _ n (sym h)))
+
+-- the same where the axes are the first `count` of the eight moves that were sent
+module _ (count : ℕ) (moves : List Move) {plans : List Plan} {samples i : ℕ}
+    (f : FoundSoFar (take count moves) plans samples i) (sent : length moves ≡ most_axes)
+    (most : count ≤ most_axes) (here : i < count) where
+  same : axis_result (axis_at moves i) ≡ axis_result (axis_at (take count moves) i)
+  same = ap axis_result (sym (counted_at count moves i here))
+
+  pub found_next_counted :
+      (x : Plan) (n : ℕ)
+      → given x ≡ axis_result (axis_at moves i)
+      → n ≡ N (intervals_in x)
+      → FoundSoFar (take count moves) (set plans i x) (max samples n) (i + 1)
+  found_next_counted x n h q = found_next f _ (within count moves sent most i here) x n (h ∙ same) q (omega (arith, here, most))
+
+  pub found_refused_counted : (n : ℕ) (o : Result (ℕ × ℕ) ℕ) → refused n ≡ axis_result (axis_at moves i)
+      → refused (n, i + 1) ≡ first_refusal (checks_from 1 (take count moves)) o
+  found_refused_counted n o h = found_refused f _ (within count moves sent most i here) n o (h ∙ same)
 
 module _ {axes : List Move} {plans : List Plan} {samples i : ℕ} (f : FoundSoFar axes plans samples i) (all : length axes ≤ i) where
   pub found_all : given samples ≡ first_refusal (checks_from 1 axes) (given (common_samples axes))

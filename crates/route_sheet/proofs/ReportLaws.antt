@@ -5,23 +5,28 @@ use Prim.Native.Nat.{ℕ, suc, ◌+◌, ◌*◌, ◌≤◌}
 use native.Mathlib.Omega.{arith}
 use lib.ListN.{length, take, replicate, length-append}
 use lib.Seq.{sets-eq}
-use Rattle.planner.specs.Result.{Result, padded}
+use Rattle.planner.specs.Result.{Result, given, padded}
+use Rattle.planner.proofs.ResultLaws.{same_given}
 use Rattle.route_sheet.specs.Text.{line_ends}
 use Rattle.route_sheet.specs.Sheet.{Sheet, most_sets, most_moves}
 use Rattle.route_sheet.specs.Beginning.{LongestBeginning, ComesTo, too_long, listed, malformed_at}
-use Rattle.route_sheet.specs.Answer.{zero_set, zero_move}
+use Rattle.route_sheet.specs.Answer.{zero_set, zero_move, Contents, contents_of, ReadsSheet}
 use Rattle.route_sheet.specs.Report.{field, move_of, moves_report, sheet_report, most_report, Reports}
 use Rattle.route_sheet.specs.Claims.{ReportFitsClaim}
 use Rattle.route_sheet.specs.Inner.Reading.{lines_in}
 use Rattle.route_sheet.specs.Inner.Output.{Puts}
 use Rattle.route_sheet.specs.Inner.Lines.{most_line}
+use Rattle.route_sheet.specs.Inner.Route.{RouteListed}
 use Rattle.route_sheet.specs.declared.BoundSet.{BoundSet}
 use Rattle.route_sheet.specs.declared.RouteMove.{RouteMove}
+use Rattle.route_sheet.specs.declared.SheetAnswer.TheVariants.{Listed}
+use Rattle.route_sheet.specs.declared.SheetReading.{SheetReading}
 use Rattle.route_sheet.proofs.DecimalLaws.{decimal_length}
 use Rattle.route_sheet.proofs.TextLaws.{line_ends_append}
 use Rattle.route_sheet.proofs.SheetLaws.{sheet_lines}
 use Rattle.route_sheet.proofs.ReportBounds.{line_length}
-use Rattle.route_sheet.proofs.ContentsLaws.{take_padded, get_d_padded}
+use Rattle.route_sheet.proofs.ReadingTheorems.{answer_is, written_back}
+use Rattle.route_sheet.proofs.ContentsLaws.{take_padded, get_d_padded, listed_route}
 
 -- Places that no set takes change no line: their bounds are the default of `move_of`.
 moves_padded :
@@ -32,11 +37,33 @@ moves_padded sets k number [] = refl
 moves_padded sets k number (m ∷ ms) = rw (get_d_padded, moves_padded sets k (suc number) ms)
 
 -- The lines that the places of a sheet make are its lines.
-pub places_lines :
+places_lines :
     (x : Sheet) (sets : List BoundSet) (moves : List RouteMove) (n : ℕ) →
     sets ≡ padded most_sets zero_set x.sets → moves ≡ padded most_moves zero_move x.moves → length x.moves ≡ n →
     moves_report sets 1 (take n moves) ≡ moves_report x.sets 1 x.moves
 places_lines x sets moves n s t e = rw (s, t, take_padded most_moves n zero_move x.moves e, moves_padded)
+
+-- What a reading that lists n moves has: a sheet that the text comes to, a route, and the sheet's report as the lines of its places.
+pub record ListedReading (text : List ℕ) (r : SheetReading) (n : ℕ) : Type 0 where
+  pub sheet : Sheet
+  pub comes_to : ComesTo text (given sheet)
+  pub route : RouteListed r.moves n
+  pub lines_are : moves_report r.sets 1 (take n r.moves) ≡ sheet_report (given sheet)
+
+pub listed_reading : {text : List ℕ} {r : SheetReading} {m n : ℕ} → ReadsSheet text r → r.answer ≡ Listed m n → ListedReading text r n
+unfolding sheet_report contents_of
+listed_reading {text} {r} {m} {n} reads e =
+    let x = written_back reads e in
+    let count : length x.sheet.moves ≡ n =
+    ap (λ (counts : ℕ × ℕ). counts.1) (same_given (answer_is _ (given x.sheet) x.contents_are e)) in
+    let sets : r.sets ≡ padded most_sets zero_set x.sheet.sets = ap (λ (c : Contents). c.sets) x.contents_are in
+    let moves : r.moves ≡ padded most_moves zero_move x.sheet.moves = ap (λ (c : Contents). c.moves) x.contents_are in
+    record {
+      sheet = x.sheet;
+      comes_to = listed x.fits x.allowed x.text_is;
+      route = rw moves (listed_route x.sheet n x.allowed count);
+      lines_are = places_lines x.sheet _ _ n sets moves count;
+    }
 
 moves_length :
     (sets : List BoundSet) (number : ℕ) (ms : List RouteMove) → number + length ms ≤ suc most_moves →
