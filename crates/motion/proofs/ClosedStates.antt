@@ -2,14 +2,16 @@
 -- range, and each is that from rest. The n-th sum has n - 1 of the widths inside; that D·P fits is all that is asked of their size.
 use mathlib.Core.List.{List, [], ◌∷◌, ◌++◌}
 use mathlib.Core.Path.{◌≡◌, sym, ap, subst, ◌∙◌}
-use Prim.Native.Nat.{ℕ, suc, ◌*◌, ◌/◌, ◌^◌, ◌≤◌}
+use Prim.Native.Nat.{ℕ, suc, ◌-◌, ◌*◌, ◌/◌, ◌^◌, ◌≤◌}
 use native.Mathlib.Nat.{le_trans, div-le_self}
+use native.Mathlib.Omega.{arith}
 use mir.Syntax.{w64}
 use mir.Val.{to_z, of_z, SFits}
 use mir.Facts.{to_z-of_z}
 use lib.IntN.{ℤ, pos, negsuc, neg_ℤ, nat_abs, ◌*ℤ◌}
-use lib.ListN.{length}
+use lib.ListN.{length, take, drop}
 use lib.Signed.{quot_z}
+use Rattle.std.proofs.lemmas.List.{length-drop, take-append-drop}
 use Rattle.planner.specs.Outcome.{most_samples}
 use Rattle.planner.proofs.Sign.{size_negated}
 use Rattle.profile.specs.Profile.{switched_in}
@@ -20,7 +22,8 @@ use Rattle.profile.proofs.WidthLaws.{sum_size}
 use Rattle.profile.proofs.SumSizes.{inner_most}
 use Rattle.profile.proofs.ClosedForm.{factorial_positive}
 use Rattle.profile.proofs.SignedForm.{forward, backward, signed_form}
-use Rattle.motion.specs.Inner.ClosedForm.{ScaledFits}
+use Rattle.motion.specs.Inner.ClosedForm.{products_over, ScaledFits}
+use Rattle.motion.specs.declared.closed_form.Products.{Products}
 use Rattle.motion.proofs.IntegerLaws.{small_fits, pos_below}
 use Rattle.motion.proofs.FallingFactorials.{bound, differences_bound}
 
@@ -98,3 +101,38 @@ module _ (a : ℕ) (outer inner : List ℕ) (level : ℤ) (k : ℕ) (h : Sampled
 
     pub scales : Scales level x (factorial order) value
     scales = record { fits = rw (to_z-of_z h.level_fits, passed_product) scaled_fits; is = scaled_is }
+
+-- The same for the sum with n of the widths ws inside, by how many they are.
+module _ (a : ℕ) (level : ℤ) (k : ℕ) where
+  abbrev ScalesAt : List ℕ → ℕ → Type 0
+  ScalesAt ws n =
+      Sampled a ws level k → suc n ≤ 4 → (x : ℤ) → x ≡ differences (ws ++ (a ∷ [])) (falling (suc n)) k
+      → Scales level x (factorial (suc n)) (sums (suc n) (switched_by a ws level (neg_ℤ level)) k)
+
+  scales_at : (ws : List ℕ) (n : ℕ) → n ≤ length ws → ScalesAt ws n
+  scales_at ws n l =
+      let i = length ws - n in
+      let inside : length (drop i ws) ≡ n = omega (arith, length-drop i ws) in
+      subst (λ ws. ScalesAt ws n) (take-append-drop i ws)
+      (subst (ScalesAt (take i ws ++ drop i ws)) inside (λ h. scales a (take i ws) (drop i ws) level k h))
+
+-- The sums that the products found are for.
+module _
+    {a : ℕ} {ws : List ℕ} {level : ℤ} {k : ℕ} (h : Sampled a ws level k)
+    {found : Products} (is : found ≡ products_over (ws ++ (a ∷ [])) k) where
+  abbrev state_sum : ℕ → ℤ
+  state_sum n = sums n (switched_by a ws level (neg_ℤ level)) k
+
+  pub three_sums_scale :
+      2 ≤ length ws
+      → Scales level found.first 1 (state_sum 1) × Scales level found.second 2 (state_sum 2) × Scales level found.third 6 (state_sum 3)
+  unfolding factorial
+  three_sums_scale l = (
+    scales_at a level k ws 0 (omega arith) h (omega arith) _ (ap (λ (p : Products). p.first) is),
+    scales_at a level k ws 1 (omega arith) h (omega arith) _ (ap (λ (p : Products). p.second) is),
+    scales_at a level k ws 2 l h (omega arith) _ (ap (λ (p : Products). p.third) is),
+  )
+
+  pub fourth_sum_scales : 3 ≤ length ws → Scales level found.fourth 24 (state_sum 4)
+  unfolding factorial
+  fourth_sum_scales l = scales_at a level k ws 3 l h (omega arith) _ (ap (λ (p : Products). p.fourth) is)

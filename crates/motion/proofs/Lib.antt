@@ -27,6 +27,8 @@ pub mod DirectedValue
 pub mod ThirdStates
 pub mod JerkRuns
 pub mod PositionLaws
+-- What the functions that give one sample share.
+pub mod OneSample
 -- Reference rows: pairs of values, and their runs.
 pub mod PairLaws
 pub mod PairRuns

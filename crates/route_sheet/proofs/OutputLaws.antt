@@ -7,7 +7,7 @@ use native.Mathlib.Omega.{arith}
 use native.Mathlib.Numerals.{add-one}
 use lib.ListN.{length, take, get_or, set, length-append}
 use lib.Seq.{sets, take-suc}
-use Rattle.route_sheet.specs.Inner.Output.{Puts}
+use Rattle.route_sheet.specs.Inner.Output.{Puts, Room}
 
 sets_append : (l : List ℕ) (i : ℕ) (xs ys : List ℕ) → sets (sets l i xs) (i + length xs) ys ≡ sets l i (xs ++ ys)
 sets_append l i [] ys = rw add-zero
@@ -28,6 +28,16 @@ module _ {old mid : List ℕ} {at next : ℕ} {xs : List ℕ} (first : Puts old 
 
   pub put_byte : (b : ℕ) → Puts old at (xs ++ (b ∷ [])) (next + 1) (set mid next b)
   put_byte b = put_more (record { next_is = refl; new_is = refl })
+
+-- The room for the first of two texts, and for the second once the first is put.
+pub record SplitRoom (at : ℕ) (xs ys : List ℕ) : Type 0 where
+  pub for_first : Room at xs
+  pub left_after : {old mid : List ℕ} {next : ℕ} → Puts old at xs next mid → Room next ys
+
+pub split_room : (at : ℕ) (xs ys : List ℕ) → Room at (xs ++ ys) → SplitRoom at xs ys
+split_room at xs ys h =
+    let both = rw length-append at h in
+    record { for_first = omega (arith, both); left_after = λ puts. omega (arith, puts.next_is, both) }
 
 -- One byte more of a text.
 pub put_next :
