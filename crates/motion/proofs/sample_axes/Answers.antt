@@ -2,135 +2,111 @@
 use borrow.Author.Tests.{eq-eqb, ne_eqb}
 use mathlib.Core.Bool.{true, false, true≢false}
 use mathlib.Core.Path.{◌≡◌, sym, ◌∙◌}
-use mir.Syntax.{w64}
-use mir.Val.{to_z, of_z}
 use mir.Facts.{to_z-of_z}
 use lib.IntN.{nat_abs}
-use Prim.Native.Nat.{◌<◌}
+use lib.ListN.{set, get_or}
+use Prim.Native.Nat.{◌+◌, ◌<◌}
 use native.Mathlib.Omega.{arith}
-use Rattle.planner.specs.Axes.{most_axes, at_rest}
+use Rattle.planner.specs.Axes.{most_axes, at_rest, rest_plan}
 use Rattle.planner.specs.AxesClaims.{axis_at}
-use Rattle.planner.specs.declared.Move.{Move}
 use Rattle.planner.specs.Claims.{IsPlanned}
+use Rattle.planner.specs.declared.Move.{Move}
+use Rattle.planner.specs.declared.Plan.{Plan}
 use Rattle.motion.specs.Axes.{axes_sample_outcome}
-use Rattle.motion.proofs.AxesSampleRuns.{Reached, reached, given_before, most, axis_needs}
-use Rattle.motion.proofs.AxesSampleRuns.{sampled_next, sampled_all}
+use Rattle.motion.specs.Inner.PlannedAxes.{AxisInRange, IsAxisSample}
+use Rattle.motion.specs.declared.Sample.{Sample}
+use Rattle.motion.proofs.StartLaws.{same_sample}
+use Rattle.motion.proofs.AxesSampleRuns.{SampledSoFar, Reached, reached, given_before, most, axis_needs, sampled_next, sampled_all}
+use Rattle.motion.proofs.sample_axes.Goals.{In-loop-i, After-magnitude}
 use Rattle.motion.proofs.sample_axes.Goals as goal
 
+-- within the loop the outcome is a sample, so the set was planned, and this is one of its axes
+module _ (c : In-loop-i) where
+  sampling : IsPlanned (axes_sample_outcome c.axes_answer-answer.result)
+  sampling = given_before _ c.sampled_places-end.ensures c.loop-i-test.true
+
+  there : Reached c.args.count c.args.moves c.args.k c.plan_axes-planned.result.plans
+  there =
+      let p = c.plan_axes-planned.ensures in
+      reached _ _ _ _ p (c.axes_answer-answer.ensures _ _ p.outcome_is) sampling
+
+  axis : c.loop-i.i < c.args.count
+  axis = omega (arith, c.sampled_places-end.ensures.0 sampling)
+
+  place : c.loop-i.i < most_axes
+  place = omega (arith, axis, most (omega arith) there.planned)
+
+  abbrev read : Move
+  read = axis_at c.args.moves c.loop-i.i
+
+  abbrev plan : Plan
+  plan = get_or c.plan_axes-planned.result.plans c.loop-i.i rest_plan
+
+  needs : AxisInRange read plan c.args.k
+  needs = axis_needs (omega arith) there.planned axis there.within_end
+
+  -- a sample of the axis goes into its place
+  next :
+      {x : Sample} → IsAxisSample read plan c.args.k x
+      → SampledSoFar c.args.count c.args.moves c.args.k c.sampled_places-end.result (set c.loop-i.samples c.loop-i.i x) (c.loop-i.i + 1)
+  next = sampled_next (omega arith) there.planned axis c.loop-i.invariant c.loop-i-test.true
+
+-- whether it is at rest, by the size that the machine has of its displacement
+module _ (c : After-magnitude) where
+  abbrev m : Move
+  m = axis_at c.args.moves c.loop-i.i
+
+  size : c.magnitude.result ≡ nat_abs m.displacement
+  size = grind (arith, to_z-of_z)
+
+  rests : c.magnitude.result ≡ 0 → at_rest m ≡ true
+  rests h = eq-eqb _ _ (sym size ∙ h)
+
+  moves : (c.magnitude.result ≡ 0 → ⊥) → at_rest m ≡ false
+  moves x = ne_eqb _ _ (λ h. x (size ∙ h))
+
 pub offset_bounds-moves-i : goal.offset_bounds-moves-i
-offset_bounds-moves-i c =
-    let sampling : IsPlanned (axes_sample_outcome c.axes_answer-answer.result) = given_before (axes_sample_outcome c.axes_answer-answer.result) c.sampled_places-end.ensures
-    c.loop-i-test.true in
-    let there : (let a = c.args in
-    Reached a.count a.moves a.k c.plan_axes-planned.result.plans) = (let p = c.plan_axes-planned.ensures in
-    reached _ _ _ _ p (c.axes_answer-answer.ensures _ _ p.outcome_is) sampling) in
-    let axis : c.loop-i.i < c.args.count = omega (arith, c.loop-i-test.true, c.sampled_places-end.ensures.0 sampling) in
-    let place : c.loop-i.i < most_axes = omega (arith, axis, most (omega arith) there.planned) in
-    omega (arith, place)
+offset_bounds-moves-i c = omega (arith, place c)
 
 pub bounds-moves-i : goal.bounds-moves-i
-bounds-moves-i c =
-    let sampling : IsPlanned (axes_sample_outcome c.axes_answer-answer.result) = given_before (axes_sample_outcome c.axes_answer-answer.result) c.sampled_places-end.ensures
-    c.loop-i-test.true in
-    let there : (let a = c.args in
-    Reached a.count a.moves a.k c.plan_axes-planned.result.plans) = (let p = c.plan_axes-planned.ensures in
-    reached _ _ _ _ p (c.axes_answer-answer.ensures _ _ p.outcome_is) sampling) in
-    let axis : c.loop-i.i < c.args.count = omega (arith, c.loop-i-test.true, c.sampled_places-end.ensures.0 sampling) in
-    let place : c.loop-i.i < most_axes = omega (arith, axis, most (omega arith) there.planned) in
-    omega (arith, place)
+bounds-moves-i c = place c
 
 pub at_start-requires : goal.at_start-requires
-at_start-requires c =
-    let sampling : IsPlanned (axes_sample_outcome c.axes_answer-answer.result) = given_before (axes_sample_outcome c.axes_answer-answer.result) c.sampled_places-end.ensures
-    c.loop-i-test.true in
-    let there : (let a = c.args in
-    Reached a.count a.moves a.k c.plan_axes-planned.result.plans) = (let p = c.plan_axes-planned.ensures in
-    reached _ _ _ _ p (c.axes_answer-answer.ensures _ _ p.outcome_is) sampling) in
-    let axis : c.loop-i.i < c.args.count = omega (arith, c.loop-i-test.true, c.sampled_places-end.ensures.0 sampling) in
-    let read : Move = axis_at c.args.moves c.loop-i.i in
-    let resting-start : to_z w64 (of_z w64 read.start) ≡ read.start = grind (arith, to_z-of_z) in
-    rw resting-start (axis_needs (omega arith) there.planned axis there.within_end).start
+at_start-requires c = grind (arith, to_z-of_z, (needs (goal.at.at_start-requires c).In-loop-i).start)
 
 pub offset_bounds-samples-i : goal.offset_bounds-samples-i
-offset_bounds-samples-i c =
-    let sampling : IsPlanned (axes_sample_outcome c.axes_answer-answer.result) = given_before (axes_sample_outcome c.axes_answer-answer.result) c.sampled_places-end.ensures
-    c.loop-i-test.true in
-    let there : (let a = c.args in
-    Reached a.count a.moves a.k c.plan_axes-planned.result.plans) = (let p = c.plan_axes-planned.ensures in
-    reached _ _ _ _ p (c.axes_answer-answer.ensures _ _ p.outcome_is) sampling) in
-    let axis : c.loop-i.i < c.args.count = omega (arith, c.loop-i-test.true, c.sampled_places-end.ensures.0 sampling) in
-    let place : c.loop-i.i < most_axes = omega (arith, axis, most (omega arith) there.planned) in
-    omega (arith, place)
+offset_bounds-samples-i c = omega (arith, place (goal.at.offset_bounds-samples-i c).In-loop-i)
 
 pub bounds-samples-i : goal.bounds-samples-i
-bounds-samples-i c =
-    let sampling : IsPlanned (axes_sample_outcome c.axes_answer-answer.result) = given_before (axes_sample_outcome c.axes_answer-answer.result) c.sampled_places-end.ensures
-    c.loop-i-test.true in
-    let there : (let a = c.args in
-    Reached a.count a.moves a.k c.plan_axes-planned.result.plans) = (let p = c.plan_axes-planned.ensures in
-    reached _ _ _ _ p (c.axes_answer-answer.ensures _ _ p.outcome_is) sampling) in
-    let axis : c.loop-i.i < c.args.count = omega (arith, c.loop-i-test.true, c.sampled_places-end.ensures.0 sampling) in
-    let place : c.loop-i.i < most_axes = omega (arith, axis, most (omega arith) there.planned) in
-    omega (arith, place, c.loop-i.invariant.places)
+bounds-samples-i c = omega (arith, place (goal.at.bounds-samples-i c).In-loop-i, c.loop-i.invariant.places)
 
 pub loop-i-preserved-then-magnitude-eq0 : goal.loop-i-preserved-then-magnitude-eq0
 loop-i-preserved-then-magnitude-eq0 c =
-    let sampling : IsPlanned (axes_sample_outcome c.axes_answer-answer.result) = given_before (axes_sample_outcome c.axes_answer-answer.result) c.sampled_places-end.ensures
-    c.loop-i-test.true in
-    let there : (let a = c.args in
-    Reached a.count a.moves a.k c.plan_axes-planned.result.plans) = (let p = c.plan_axes-planned.ensures in
-    reached _ _ _ _ p (c.axes_answer-answer.ensures _ _ p.outcome_is) sampling) in
-    let axis : c.loop-i.i < c.args.count = omega (arith, c.loop-i-test.true, c.sampled_places-end.ensures.0 sampling) in
-    let read : Move = axis_at c.args.moves c.loop-i.i in
-    let size : c.magnitude.result ≡ nat_abs read.displacement = grind (arith, to_z-of_z) in
-    let rests : at_rest read ≡ true = eq-eqb _ _ (sym size ∙ c.if-magnitude-eq0.true) in
-    let resting-start : to_z w64 (of_z w64 read.start) ≡ read.start = grind (arith, to_z-of_z) in
-    let r = rests in
-    sampled_next (omega arith) there.planned axis c.loop-i.invariant c.loop-i-test.true
-    (record { moving = λ h. absurd (true≢false (sym r ∙ h)); resting = λ h. rw resting-start at c.at_start.ensures })
+    let past = goal.at.loop-i-preserved-then-magnitude-eq0 c in
+    next past.In-loop-i
+    (record {
+      moving = λ h. absurd (true≢false (sym (rests past.After-magnitude c.if-magnitude-eq0.true) ∙ h));
+      resting = λ h. grind (arith, to_z-of_z, c.at_start.ensures);
+    })
 
 pub sample_in_plan-requires : goal.sample_in_plan-requires
 sample_in_plan-requires c =
-    let sampling : IsPlanned (axes_sample_outcome c.axes_answer-answer.result) = given_before (axes_sample_outcome c.axes_answer-answer.result) c.sampled_places-end.ensures
-    c.loop-i-test.true in
-    let there : (let a = c.args in
-    Reached a.count a.moves a.k c.plan_axes-planned.result.plans) = (let p = c.plan_axes-planned.ensures in
-    reached _ _ _ _ p (c.axes_answer-answer.ensures _ _ p.outcome_is) sampling) in
-    let axis : c.loop-i.i < c.args.count = omega (arith, c.loop-i-test.true, c.sampled_places-end.ensures.0 sampling) in
-    let read : Move = axis_at c.args.moves c.loop-i.i in
-    let size : c.magnitude.result ≡ nat_abs read.displacement = grind (arith, to_z-of_z) in
-    let moving : at_rest read ≡ false = ne_eqb _ _ (λ h. c.if-magnitude-eq0.false (size ∙ h)) in
-    let moving-start : (let m = read in
-    to_z w64 (of_z w64 m.start) ≡ m.start) = grind (arith, to_z-of_z) in
-    let h = moving in
-    let p = axis_needs (omega arith) there.planned axis there.within_end in
-    record { plan_in_range = p.plan h; start_bound = rw moving-start p.start; k_bound = p.sample h }
+    let past = goal.at.sample_in_plan-requires c in
+    let p = needs past.In-loop-i in
+    let h = moves past.After-magnitude c.if-magnitude-eq0.false in
+    record { plan_in_range = p.plan h; start_bound = grind (arith, to_z-of_z, p.start); k_bound = p.sample h }
 
 pub loop-i-preserved : goal.loop-i-preserved
 loop-i-preserved c =
-    let sampling : IsPlanned (axes_sample_outcome c.axes_answer-answer.result) = given_before (axes_sample_outcome c.axes_answer-answer.result) c.sampled_places-end.ensures
-    c.loop-i-test.true in
-    let there : (let a = c.args in
-    Reached a.count a.moves a.k c.plan_axes-planned.result.plans) = (let p = c.plan_axes-planned.ensures in
-    reached _ _ _ _ p (c.axes_answer-answer.ensures _ _ p.outcome_is) sampling) in
-    let axis : c.loop-i.i < c.args.count = omega (arith, c.loop-i-test.true, c.sampled_places-end.ensures.0 sampling) in
-    let read : Move = axis_at c.args.moves c.loop-i.i in
-    let size : c.magnitude.result ≡ nat_abs read.displacement = grind (arith, to_z-of_z) in
-    let moving : at_rest read ≡ false = ne_eqb _ _ (λ h. c.if-magnitude-eq0.false (size ∙ h)) in
-    let moving-start : (let m = read in
-    to_z w64 (of_z w64 m.start) ≡ m.start) = grind (arith, to_z-of_z) in
-    let m = moving in
-    let X = read.displacement in
-    let back : to_z w64 (of_z w64 X) ≡ X = grind (arith, to_z-of_z) in
-    sampled_next (omega arith) there.planned axis c.loop-i.invariant c.loop-i-test.true
+    let past = goal.at.loop-i-preserved c in
+    next past.In-loop-i
     (record {
-      moving = λ h. rw (back, moving-start) at c.sample_in_plan.ensures;
-      resting = λ h. absurd (true≢false (sym h ∙ m));
+      moving = λ h. same_sample (grind (arith, to_z-of_z)) (grind (arith, to_z-of_z)) c.sample_in_plan.ensures;
+      resting = λ h. absurd (true≢false (sym h ∙ moves past.After-magnitude c.if-magnitude-eq0.false));
     })
 
 pub returns : goal.returns
 returns c =
     let p = c.plan_axes-planned.ensures in
-    let d = c.axes_answer-answer in
-    sampled_all (omega arith) c.loop-i.invariant (omega arith) _ p _ (d.ensures _ _ p.outcome_is)
+    sampled_all (omega arith) c.loop-i.invariant (omega arith) _ p _ (c.axes_answer-answer.ensures _ _ p.outcome_is)
     c.sampled_places-end.ensures

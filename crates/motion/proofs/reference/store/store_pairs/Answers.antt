@@ -1,6 +1,5 @@
 -- `store_pairs` meets its contract: a run over the first pair, and one over the others.
 use mathlib.Core.Path.{◌≡◌, refl}
-use Prim.Native.Nat.{◌<◌}
 use native.Mathlib.Omega.{arith}
 use mir.Syntax.{w64}
 use mir.Val.{to_z, of_z}
@@ -9,6 +8,7 @@ use lib.IntN.{◌+ℤ◌}
 use Rattle.motion.specs.Inner.OrderRuns.{order_run}
 use Rattle.motion.proofs.RunLaws.{no_run}
 use Rattle.motion.proofs.PairRuns.{first_fits, can_first, can_others, ran_pairs}
+use Rattle.motion.proofs.reference.store.store_pairs.Goals.{After-pairs_of-pairs}
 use Rattle.motion.proofs.reference.store.store_pairs.Goals as goal
 
 pub returns-then-count-eq0 : goal.returns-then-count-eq0
@@ -16,35 +16,32 @@ returns-then-count-eq0 c = no_run c.args.count _ (omega (arith, c.if-count-eq0.t
 
 pub pairs_of-pairs-requires : goal.pairs_of-pairs-requires
 pairs_of-pairs-requires c =
-    let some : 0 < c.args.count = omega (arith, c.if-count-eq0.false) in
-    let back : (let a = c.args in to_z w64 (of_z w64 a.level) ≡ a.level) = to_z-of_z c.ranges.level in
-    let before_back : (let a = c.args in to_z w64 (of_z w64 a.from.before) ≡ a.from.before) = grind (arith, to_z-of_z) in
-    rw (back, before_back) (first_fits (order_run c.args.third).writer _ c.args.count _ _ some c.requires).pairs_fit
+    let before_back : to_z w64 (of_z w64 c.args.from.before) ≡ c.args.from.before = grind (arith, to_z-of_z) in
+    rw (to_z-of_z c.ranges.level, before_back)
+    (first_fits (order_run c.args.third).writer _ c.args.count _ _ (omega arith) c.requires).pairs_fit
+
+-- the pairs as the machine reads them back
+module _ (c : After-pairs_of-pairs) where
+  first_is : to_z w64 (of_z w64 c.pairs_of-pairs.result.first) ≡ c.args.level +ℤ c.args.from.before
+  first_is = grind (arith, to_z-of_z)
+
+  others_are : to_z w64 (of_z w64 c.pairs_of-pairs.result.others) ≡ c.args.level +ℤ c.args.level
+  others_are = grind (arith, to_z-of_z)
 
 pub store_level-first-requires : goal.store_level-first-requires
 store_level-first-requires c =
-    let some : 0 < c.args.count = omega (arith, c.if-count-eq0.false) in
-    let first_is : (let a = c.args in
-    to_z w64 (of_z w64 c.pairs_of-pairs.result.first) ≡ a.level +ℤ a.from.before) = grind (arith, to_z-of_z) in
-    can_first _ _ c.args.count _ _ some c.requires first_is
+    let p = (goal.at.store_level-first-requires c).After-pairs_of-pairs in
+    can_first _ _ c.args.count _ _ (omega arith) c.requires (first_is p)
 
 pub store_level-state-requires : goal.store_level-state-requires
 store_level-state-requires c =
-    let some : 0 < c.args.count = omega (arith, c.if-count-eq0.false) in
-    let first_is : (let a = c.args in
-    to_z w64 (of_z w64 c.pairs_of-pairs.result.first) ≡ a.level +ℤ a.from.before) = grind (arith, to_z-of_z) in
-    let others_are : (let a = c.args in
-    to_z w64 (of_z w64 c.pairs_of-pairs.result.others) ≡ a.level +ℤ a.level) = grind (arith, to_z-of_z) in
-    can_others _ _ c.args.count _ _ some c.requires first_is others_are refl c.store_level-first.ensures
+    let p = (goal.at.store_level-state-requires c).After-pairs_of-pairs in
+    can_others _ _ c.args.count _ _ (omega arith) c.requires (first_is p) (others_are p) refl
+    c.store_level-first.ensures
 
 pub returns : goal.returns
 returns c =
-    let some : 0 < c.args.count = omega (arith, c.if-count-eq0.false) in
-    let back : (let a = c.args in to_z w64 (of_z w64 a.level) ≡ a.level) = to_z-of_z c.ranges.level in
-    let first_is : (let a = c.args in
-    to_z w64 (of_z w64 c.pairs_of-pairs.result.first) ≡ a.level +ℤ a.from.before) = grind (arith, to_z-of_z) in
-    let others_are : (let a = c.args in
-    to_z w64 (of_z w64 c.pairs_of-pairs.result.others) ≡ a.level +ℤ a.level) = grind (arith, to_z-of_z) in
-    rw back
-    (ran_pairs _ _ c.args.count _ _ some first_is others_are c.store_level-first.ensures
+    let p = (goal.at.returns c).After-pairs_of-pairs in
+    rw (to_z-of_z c.ranges.level)
+    (ran_pairs _ _ c.args.count _ _ (omega arith) (first_is p) (others_are p) c.store_level-first.ensures
     c.store_level-state.ensures)

@@ -1,5 +1,4 @@
 -- `fill_pairs` meets its contract. The loop's invariant: the segments that are left come to the same as all of them.
-use Prim.Native.Nat.{◌<◌}
 use native.Mathlib.Omega.{arith}
 use mir.Syntax.{w64}
 use mir.Val.{to_z, of_z}
@@ -10,28 +9,25 @@ use Rattle.motion.specs.Inner.Pairs.{list_in, pair_run, pair_in, paired_rest}
 use Rattle.motion.specs.Inner.SegmentLists.{SegmentAt}
 use Rattle.motion.proofs.SegmentRuns.{segment_can_run, next_segment, all_ran}
 use Rattle.motion.proofs.OrderRunLaws.{counted, segment_of}
-use mathlib.Core.Path.{◌≡◌}
+use Rattle.motion.proofs.reference.table.fill_pairs.Goals.{After-segment_at-segment}
 use Rattle.motion.proofs.reference.table.fill_pairs.Goals as goal
+
+-- the segment is the next of the order's
+next : (c : After-segment_at-segment)
+    → let a = c.args in
+    SegmentAt ((order_run a.third).segments a.durations) a.levels c.loop-i.i c.segment_at-segment.result
+next c =
+    segment_of c.args.third c.args.durations (omega (arith, c.loop-i-test.true, c.segment_count-end.ensures)) c.segment_at-segment.ensures
 
 pub store_pairs-current-requires : goal.store_pairs-current-requires
 store_pairs-current-requires c =
-    let number : c.loop-i.i < (order_run c.args.third).segment_count = omega (arith, c.loop-i-test.true, c.segment_count-end.ensures) in
-    let next : (let a = c.args in
-    SegmentAt ((order_run a.third).segments a.durations) a.levels c.loop-i.i c.segment_at-segment.result) = (let a = c.args in
-    segment_of a.third a.durations number c.segment_at-segment.ensures) in
-    segment_can_run c.loop-i.invariant next
-    (let h : to_z w64 (of_z w64 c.segment_at-segment.result.level) ≡ c.segment_at-segment.result.level = grind (arith, to_z-of_z) in h)
+    segment_can_run c.loop-i.invariant (next (goal.at.store_pairs-current-requires c).After-segment_at-segment) (grind (arith, to_z-of_z))
 
 pub loop-i-preserved : goal.loop-i-preserved
 loop-i-preserved c =
-    let number : c.loop-i.i < (order_run c.args.third).segment_count = omega (arith, c.loop-i-test.true, c.segment_count-end.ensures) in
-    let next : (let a = c.args in
-    SegmentAt ((order_run a.third).segments a.durations) a.levels c.loop-i.i c.segment_at-segment.result) = (let a = c.args in
-    segment_of a.third a.durations number c.segment_at-segment.ensures) in
-    let a = c.args in
-    next_segment c.loop-i.invariant next
-    (let h : to_z w64 (of_z w64 c.segment_at-segment.result.level) ≡ c.segment_at-segment.result.level = grind (arith, to_z-of_z) in h)
-    (omega (arith, number, counted a.third a.durations)) c.store_pairs-current.ensures
+    next_segment c.loop-i.invariant (next (goal.at.loop-i-preserved c).After-segment_at-segment) (grind (arith, to_z-of_z))
+    (omega (arith, c.loop-i-test.true, c.segment_count-end.ensures, counted c.args.third c.args.durations))
+    c.store_pairs-current.ensures
 
 pub returns : goal.returns
 returns c =

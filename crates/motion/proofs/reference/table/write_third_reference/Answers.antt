@@ -1,6 +1,6 @@
 -- `write_third_reference` meets its contract.
 use mathlib.Core.List.{[]}
-use mathlib.Core.Path.{◌≡◌, ap, subst}
+use mathlib.Core.Path.{◌≡◌, ap}
 use Prim.Native.Nat.{ℕ, ◌+◌}
 use native.Mathlib.Omega.{arith}
 use lib.IntN.{◌+ℤ◌}
@@ -13,6 +13,7 @@ use Rattle.motion.proofs.StartLaws.{twice_size, made_of_start}
 use Rattle.motion.proofs.ThirdStates.{jerk_small}
 use Rattle.motion.proofs.FillLaws.{short, written}
 use Rattle.motion.proofs.ReferenceLaws.{third_reference_can_run, third_reference_in}
+use Rattle.motion.proofs.reference.table.write_third_reference.Goals.{After-levels_of, After-first_pair}
 use Rattle.motion.proofs.reference.table.write_third_reference.Goals as goal
 
 pub returns-then-table-rows : goal.returns-then-table-rows
@@ -21,26 +22,27 @@ returns-then-table-rows c = short [] (omega (arith, c.if-table-rows.true, c.samp
 pub levels_of-requires : goal.levels_of-requires
 levels_of-requires c = omega (arith, jerk_small c.args.displacement _ _ c.requires.third_plan_in_range)
 
+levels : (c : After-levels_of) → AreLevels c.args.displacement c.args.plan.jerk c.levels_of.result
+levels c = rw (to_z-of_z c.ranges.displacement) at c.levels_of.ensures
+
+first : (c : After-first_pair) → to_z w64 (of_z w64 c.first_pair.result) ≡ units_of c.args.start +ℤ units_of c.args.start
+first c =
+    made_of_start c.args.start c.ranges.start (λ x. units_of x +ℤ units_of x) c.first_pair.result
+    (record { sfits = c.first_pair.type_inv }) c.first_pair.ensures
+
 pub fill_pairs-requires : goal.fill_pairs-requires
 fill_pairs-requires c =
-    let levels : (let a = c.args in
-    AreLevels a.displacement a.plan.jerk c.levels_of.result) = subst (λ X. AreLevels X c.args.plan.jerk c.levels_of.result) (to_z-of_z c.ranges.displacement) c.levels_of.ensures in
-    let first : (let start = c.args.start in
-    to_z w64 (of_z w64 c.first_pair.result) ≡ units_of start +ℤ units_of start) = made_of_start c.args.start c.ranges.start (λ x. units_of x +ℤ units_of x) c.first_pair.result
-    (record { sfits = c.first_pair.type_inv }) c.first_pair.ensures in
-    rw first
-    (third_reference_can_run c.args.displacement _ _ c.requires.third_plan_in_range c.third_durations.ensures levels _
-    (twice_size c.args.start c.requires.start_bound) (omega arith) (omega (arith, c.if-table-rows.false, c.samples_in_third-rows.ensures)))
+    let past = goal.at.fill_pairs-requires c in
+    rw (first past.After-first_pair)
+    (third_reference_can_run c.args.displacement _ _ c.requires.third_plan_in_range c.third_durations.ensures
+    (levels past.After-levels_of) _ (twice_size c.args.start c.requires.start_bound) (omega arith)
+    (omega (arith, c.if-table-rows.false, c.samples_in_third-rows.ensures)))
 
 pub returns : goal.returns
 returns c =
-    let levels : (let a = c.args in
-    AreLevels a.displacement a.plan.jerk c.levels_of.result) = subst (λ X. AreLevels X c.args.plan.jerk c.levels_of.result) (to_z-of_z c.ranges.displacement) c.levels_of.ensures in
-    let first : (let start = c.args.start in
-    to_z w64 (of_z w64 c.first_pair.result) ≡ units_of start +ℤ units_of start) = made_of_start c.args.start c.ranges.start (λ x. units_of x +ℤ units_of x) c.first_pair.result
-    (record { sfits = c.first_pair.type_inv }) c.first_pair.ensures in
+    let past = goal.at.returns c in
     let samples = c.samples_in_third-rows.ensures in
     let room = rw samples at c.if-table-rows.false in
     written [] (ap (λ (n : ℕ). n + 2) samples) room tt
-    (third_reference_in c.args.displacement _ _ c.requires.third_plan_in_range c.third_durations.ensures levels c.args.start
-    (omega (arith, room)) (rw first at c.fill_pairs.ensures))
+    (third_reference_in c.args.displacement _ _ c.requires.third_plan_in_range c.third_durations.ensures
+    (levels past.After-levels_of) c.args.start (omega (arith, room)) (rw (first past.After-first_pair) at c.fill_pairs.ensures))
