@@ -46,7 +46,8 @@ module _ {t : ℕ} {reach : ℕ → ℕ} where
         here = λ _. ⊎_elim (λ (q : r ≡ mid). subst (λ (n : ℕ). t ≤ reach n) (sym q) k) w.here (eq-or-lt_of_le w.high);
       }
 
-  -- from any number on that the middle is not far below, so that a wrong start fails where the loop must end
+  -- The middle does not reach t: what is least from a number up to the one past the middle on is least from lo on. It holds for each such
+  -- number, so that a loop that goes on from a wrong one fails where it must end.
   pub within_right :
       {lo from hi r : ℕ} (mid : ℕ) → Rising reach → lo ≤ from → from ≤ mid + 1 → reach mid < t → LeastWithin t reach from hi r
       → LeastWithin t reach lo hi r

@@ -39,14 +39,11 @@ use crate::numbers::read_byte;
 use crate::positions::answer_positions;
 use crate::sheets::answer_sheet;
 use std::io;
-use std::io::{BufReader, BufWriter, Read, Write};
+use std::io::{Read, Write};
 
-// Both ends are buffered, since the requests are read byte by byte.
+// Neither end is buffered, so that each answer is there before the next request is read.
 fn main(rt: HostRuntime) -> io::Result<()> {
-    let mut input = BufReader::new(rt.alloc(), rt.stdin())?;
-    let mut out = BufWriter::new(rt.alloc(), rt.stdout())?;
-    answer_all(&mut input, &mut out)?;
-    out.flush()
+    answer_all(&mut rt.stdin(), &mut rt.stdout())
 }
 
 // The count of requests is bounded, so that the loop ends whatever is read.

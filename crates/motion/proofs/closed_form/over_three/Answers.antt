@@ -1,4 +1,4 @@
--- `over_three` meets its contract. The two are whichever is taken from the other, so that a wrong sign fails where it is wrong.
+-- `over_three` meets its contract. The copies fit whichever is taken from the other, so that a wrong sign fails where it is wrong.
 use mathlib.Core.List.{[], ◌∷◌}
 use mathlib.Core.Path.{◌∙◌}
 use native.Mathlib.Omega.{arith}
