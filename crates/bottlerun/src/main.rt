@@ -4,7 +4,8 @@
 // fails counts as the end of the input. A write that fails ends the program with its error, and status 1.
 #![tactic(auto)]
 
-ghost use Rattle.std.specs.Prelude.{◌≤◌, length};
+ghost use Rattle.std.specs.Prelude.{◌≤◌, length, take};
+ghost use Rattle.std.specs.Io.KnownBytes.{Consumes};
 
 use route_sheet::REPORT_BYTES;
 use std::io;
@@ -20,9 +21,12 @@ fn main(rt: HostRuntime) -> io::Result<()> {
     rt.stdout().write_all(&out[..count])
 }
 
-// Reads until `text` is full, the input ends or a read fails, and answers how many bytes it put at the start of `text`.
+// Reads until `text` is full, the input ends or a read fails, and answers how many bytes it put at the start of `text`. These are all that
+// it took of the input, in their order. The loop is by hand: `read_exact` tells no count where the input ends before, and `read_to_end`
+// needs a heap.
 fn read_full<R: Read>(input: &mut R, text: &mut [u8]) -> usize
-    ensures { result ≤ length text.new }
+    ensures within { result ≤ length text.new }
+    ensures bytes { Consumes (R.remaining input.old) (R.remaining input.new) (take result text.new) }
 {
     let mut done = 0;
     while done < text.len() {

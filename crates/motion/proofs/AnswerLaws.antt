@@ -4,14 +4,15 @@ use mathlib.Core.Path.{◌≡◌, refl, sym, ap, ap₂, ◌∙◌}
 use Prim.Native.Nat.{ℕ}
 use native.Mathlib.Omega.{arith}
 use lib.Ieee.{Float}
-use Rattle.planner.specs.Result.{Result, Check}
+use Rattle.planner.specs.Refusals.{Check}
+use Rattle.std.specs.Prelude.{Result, Ok, Err}
 use Rattle.planner.proofs.Clash.{clash}
 use Rattle.planner.proofs.ResultLaws.{refused_or_given, same_refused, same_given}
 use Rattle.planner.proofs.AnswerLaws as planner
 use Rattle.motion.specs.Sampling.{Motion, Samples}
 use Rattle.motion.specs.ForceRows.Force.{rigid, filtered}
 use Rattle.motion.specs.Tables.{Fills, FillsPositions, FillsReference, FillsForce}
-use Rattle.motion.specs.Answer.{number, sample_outcome, table_outcome}
+use Rattle.motion.specs.Answer.{number, outcome}
 use Rattle.motion.specs.Claims.{OneAnswer, OneAnswerClaim}
 use Rattle.motion.specs.Inner.Rows.{drive_kind}
 use Rattle.motion.proofs.SamplingLaws.{only_sample}
@@ -20,10 +21,6 @@ use Rattle.motion.specs.declared.force.drive.Drive.{Drive}
 use Rattle.motion.specs.declared.force.drive.Drive.TheVariants.{Rigid, Filtered}
 use Rattle.motion.specs.declared.MotionRefusal.{MotionRefusal}
 use Rattle.motion.specs.declared.MotionRefusal.TheVariants.{Unplanned, ShortTable, PastEnd, MachineRange}
-use Rattle.motion.specs.declared.SampleAnswer.{SampleAnswer}
-use Rattle.motion.specs.declared.SampleAnswer.TheVariants.{Sampled, Refused as NoSample}
-use Rattle.motion.specs.declared.TableAnswer.{TableAnswer}
-use Rattle.motion.specs.declared.TableAnswer.TheVariants.{Filled, Refused as NoTable}
 
 pub number_injective : (x y : MotionRefusal) → number x ≡ number y → x ≡ y
 number_injective (Unplanned x) (Unplanned y) h = ap Unplanned (planner.number_injective x y h)
@@ -43,17 +40,11 @@ number_injective MachineRange ShortTable h = absurd (omega (arith, h))
 number_injective MachineRange PastEnd h = absurd (omega (arith, h))
 number_injective MachineRange MachineRange h = refl
 
-pub sample_injective : (x y : SampleAnswer) → sample_outcome x ≡ sample_outcome y → x ≡ y
-sample_injective (Sampled x) (Sampled y) h = ap Sampled (same_given h)
-sample_injective (Sampled x) (NoSample y) h = absurd (refused_or_given (number y) x (sym h))
-sample_injective (NoSample x) (Sampled y) h = absurd (refused_or_given (number x) y h)
-sample_injective (NoSample x) (NoSample y) h = ap NoSample (number_injective x y (same_refused h))
-
-pub table_injective : (x y : TableAnswer) → table_outcome x ≡ table_outcome y → x ≡ y
-table_injective (Filled x) (Filled y) h = ap Filled (same_given h)
-table_injective (Filled x) (NoTable y) h = absurd (refused_or_given (number y) x (sym h))
-table_injective (NoTable x) (Filled y) h = absurd (refused_or_given (number x) y h)
-table_injective (NoTable x) (NoTable y) h = ap NoTable (number_injective x y (same_refused h))
+pub outcome_injective : {A : Type 0} (x y : Result A MotionRefusal) → outcome x ≡ outcome y → x ≡ y
+outcome_injective (Ok x) (Ok y) h = ap Ok (same_given h)
+outcome_injective (Ok x) (Err y) h = absurd (refused_or_given (number y) x (sym h))
+outcome_injective (Err x) (Ok y) h = absurd (refused_or_given (number x) y h)
+outcome_injective (Err x) (Err y) h = ap Err (number_injective x y (same_refused h))
 
 -- the checked drive: different drives are of different kinds
 kinds_apart : (c alpha beta : Float) → rigid c ≡ filtered alpha beta → ⊥
@@ -73,11 +64,11 @@ drive_injective (Filtered a b) (Filtered c d) h = let same = same_filter a b c d
 
 -- so a promise leaves one answer
 module _ {x : Motion} {k : ℕ} where
-  pub one_sample_outcome : {o p : Result ℕ Sample} → Samples x k o → Samples x k p → o ≡ p
+  pub one_sample_outcome : {o p : Result Sample ℕ} → Samples x k o → Samples x k p → o ≡ p
   one_sample_outcome h l = only_sample x k h ∙ sym (only_sample x k l)
 
-  pub one_sample_answer : (y z : SampleAnswer) → Samples x k (sample_outcome y) → Samples x k (sample_outcome z) → y ≡ z
-  one_sample_answer y z h l = sample_injective y z (one_sample_outcome h l)
+  pub one_sample_answer : (y z : Result Sample MotionRefusal) → Samples x k (outcome y) → Samples x k (outcome z) → y ≡ z
+  one_sample_answer y z h l = outcome_injective y z (one_sample_outcome h l)
 
 module _ {A : Type 0} {x : Motion} {rows : ℕ} {own : List (Check ℕ)} {row : ℕ → A} {old new new' : List A} where
   pub one_table_outcome :
@@ -85,11 +76,11 @@ module _ {A : Type 0} {x : Motion} {rows : ℕ} {own : List (Check ℕ)} {row : 
   one_table_outcome h l = (h.outcome_is ∙ sym l.outcome_is, h.table_is ∙ sym l.table_is)
 
   pub one_table_answer :
-      (y z : TableAnswer)
-      → Fills x own rows row old (table_outcome y) new
-      → Fills x own rows row old (table_outcome z) new'
+      (y z : Result ℕ MotionRefusal)
+      → Fills x own rows row old (outcome y) new
+      → Fills x own rows row old (outcome z) new'
       → (y ≡ z) × (new ≡ new')
-  one_table_answer y z h l = let same = one_table_outcome h l in (table_injective y z same.0, same.1)
+  one_table_answer y z h l = let same = one_table_outcome h l in (outcome_injective y z same.0, same.1)
 
 one_answer : (x : Motion) → OneAnswer x
 unfolding FillsPositions FillsReference

@@ -6,7 +6,8 @@ use Prim.Native.Nat.{ℕ, ◌≤◌, ◌<◌}
 use lib.Dec.{ltb}
 use lib.IntN.{pos}
 use lib.ListN.{length, take, get_or, replicate}
-use Rattle.planner.specs.Result.{Result, refused, given, check, first_refusal}
+use Rattle.planner.specs.Refusals.{check, first_refusal}
+use Rattle.std.specs.Prelude.{Result, Ok, Err}
 use Rattle.planner.specs.Axes.{most_axes, common_samples, axes_checks, axes_result, axes_places}
 use Rattle.planner.specs.declared.Move.{Move}
 use Rattle.planner.proofs.RefusalLaws.{stop, skip, none_left, all_pass, checks_joined, same_refusal}
@@ -32,7 +33,7 @@ module _ (count : ℕ) (moves : List Move) where
     abbrev pub row : Move → Sample
     row m = axis_row (common_samples axes) m k
 
-    module _ {o : Result (ℕ × ℕ) (Unit {0})} {samples : List Sample} where
+    module _ {o : Result (Unit {0}) (ℕ × ℕ)} {samples : List Sample} where
       pub placed_rows : samples ≡ axes_places count moves zeros row o → SamplesPlaced count moves k o samples
       placed_rows q = record { rounding = rounding_of; samples_are = q }
 
@@ -45,48 +46,48 @@ module _ (count : ℕ) (moves : List Move) where
 
     -- all places are zeros at a refusal
     without :
-        {x : ℕ × ℕ} → refused x ≡ axes_sample_result count moves k → SamplesAxes count moves k (refused x) (replicate most_axes zeros)
+        {x : ℕ × ℕ} → Err x ≡ axes_sample_result count moves k → SamplesAxes count moves k (Err x) (replicate most_axes zeros)
     without {x} q =
         record {
           outcome_is = q;
           placed =
-              subst (λ (o : Result (ℕ × ℕ) (Unit {0})). SamplesPlaced count moves k o (replicate most_axes zeros)) q (placed_rows refl);
+              subst (λ (o : Result (Unit {0}) (ℕ × ℕ)). SamplesPlaced count moves k o (replicate most_axes zeros)) q (placed_rows refl);
         }
 
     pub samples_refused :
-        {x : ℕ × ℕ} → refused x ≡ axes_result count moves → SamplesAxes count moves k (refused x) (replicate most_axes zeros)
+        {x : ℕ × ℕ} → Err x ≡ axes_result count moves → SamplesAxes count moves k (Err x) (replicate most_axes zeros)
     unfolding axes_result axes_sample_result
     samples_refused q =
         without (sym (checks_joined (axes_checks count moves) _ _ ∙ same_refusal (axes_checks count moves) _ _ _ (sym q)))
 
     -- past the checks of the set, 9 is left
     pub own_check :
-        {n : ℕ} → given n ≡ axes_result count moves → {o : Result (ℕ × ℕ) (Unit {0})}
-        → o ≡ first_refusal (check (9, 0) (ltb (common_samples axes) k) ∷ []) (given tt)
+        {n : ℕ} → Ok n ≡ axes_result count moves → {o : Result (Unit {0}) (ℕ × ℕ)}
+        → o ≡ first_refusal (check (9, 0) (ltb (common_samples axes) k) ∷ []) (Ok tt)
         → o ≡ axes_sample_result count moves k
     unfolding axes_sample_result
     own_check h q = q ∙ sym (checks_joined (axes_checks count moves) _ _ ∙ all_pass (axes_checks count moves) _ (all_passed count moves h))
 
-    module _ {n : ℕ} (h : given n ≡ axes_result count moves) where
-      pub result_past : n < k → refused (9, 0) ≡ axes_sample_result count moves k
+    module _ {n : ℕ} (h : Ok n ≡ axes_result count moves) where
+      pub result_past : n < k → Err (9, 0) ≡ axes_sample_result count moves k
       result_past l = own_check h (stop (lt-ltb _ k (subst (λ (n : ℕ). n < k) (common_is count moves h) l))).is
 
-      pub samples_past : n < k → SamplesAxes count moves k (refused (9, 0)) (replicate most_axes zeros)
+      pub samples_past : n < k → SamplesAxes count moves k (Err (9, 0)) (replicate most_axes zeros)
       samples_past l = without (result_past l)
 
       -- within the duration a sample is given
-      pub result_given : k ≤ n → given tt ≡ axes_sample_result count moves k
+      pub result_given : k ≤ n → Ok tt ≡ axes_sample_result count moves k
       result_given l = own_check h (skip (le-ltb _ k (subst (λ (n : ℕ). k ≤ n) (common_is count moves h) l)) none_left).is
 
-      pub samples_given : {samples : List Sample} → k ≤ n → SamplesPlaced count moves k (given tt) samples
-          → SamplesAxes count moves k (given tt) samples
+      pub samples_given : {samples : List Sample} → k ≤ n → SamplesPlaced count moves k (Ok tt) samples
+          → SamplesAxes count moves k (Ok tt) samples
       samples_given {samples} l p =
           let q = result_given l in
-          record { outcome_is = q; placed = subst (λ (o : Result (ℕ × ℕ) (Unit {0})). SamplesPlaced count moves k o samples) q p }
+          record { outcome_is = q; placed = subst (λ (o : Result (Unit {0}) (ℕ × ℕ)). SamplesPlaced count moves k o samples) q p }
 
       -- and its place holds the rule's row
       pub sampled_row :
-          {o : Result (ℕ × ℕ) (Unit {0})} {samples : List Sample} → SamplesAxes count moves k o samples → k ≤ n
+          {o : Result (Unit {0}) (ℕ × ℕ)} {samples : List Sample} → SamplesAxes count moves k o samples → k ≤ n
           → (i : ℕ) (d : Move) → i < length axes → get_or samples i zeros ≡ axis_row (common_samples axes) (get_or axes i d) k
       sampled_row {o} {samples} p l i d within =
           ap (λ (l : List Sample). get_or l i zeros)

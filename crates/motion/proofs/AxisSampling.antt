@@ -6,7 +6,7 @@ use Prim.Native.Nat.{ℕ, ◌≤◌, ◌<◌}
 use lib.IntN.{ℤ, pos, +ℤ_idr}
 use lib.ListN.{length, get_or}
 use Rattle.planner.specs.Intervals.{Intervals, N, D}
-use Rattle.planner.specs.Result.{Each}
+use Rattle.planner.specs.Refusals.{Each}
 use Rattle.planner.specs.Outcome.{distance_of, intervals_of, intervals_in}
 use Rattle.planner.specs.Axes.{raised, at_rest, axis_plan, common_samples}
 use Rattle.planner.specs.AxesClaims.{AcceptedAxis}

@@ -96,8 +96,8 @@ module _ (a : ℕ) (outer inner : List ℕ) (level : ℤ) (k : ℕ) (h : Sampled
 
     scaled_is : (r : ℤ) → r ≡ read level *ℤ quot_z (read x) (pos (factorial order)) → read r ≡ value
     scaled_is r e =
-        let given : r ≡ value = (rw (to_z-of_z h.level_fits, passed_product) at e) ∙ sym value_is in
-        rw given (to_z-of_z value_fits)
+        let is_value : r ≡ value = (rw (to_z-of_z h.level_fits, passed_product) at e) ∙ sym value_is in
+        rw is_value (to_z-of_z value_fits)
 
     pub scales : Scales level x (factorial order) value
     scales = record { fits = rw (to_z-of_z h.level_fits, passed_product) scaled_fits; is = scaled_is }

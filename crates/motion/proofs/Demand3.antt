@@ -7,7 +7,8 @@ use native.Mathlib.Omega.{arith}
 use borrow.Author.Tests.{le-ltb}
 use lib.IntN.{ℤ, pos}
 use lib.ListN.{length}
-use Rattle.planner.specs.Result.{Each, Result, given}
+use Rattle.planner.specs.Refusals.{Each}
+use Rattle.std.specs.Prelude.{Result, Ok}
 use Rattle.planner.specs.Intervals.{P}
 use Rattle.planner.specs.Outcome.{distance_of, intervals_of, samples_of}
 use Rattle.planner.specs.Claims.{Accepted}
@@ -37,14 +38,14 @@ module _ (x : Motion) (p : Each Passes x.plan_checks) where
   rule_at k = with_rounding x.start (x.values k)
 
   -- what the one-sample entry gives
-  pub sampled : {k : ℕ} {o : Result ℕ Sample} → k ≤ x.samples → Samples x k o → o ≡ given (rule_at k)
+  pub sampled : {k : ℕ} {o : Result Sample ℕ} → k ≤ x.samples → Samples x k o → o ≡ Ok (rule_at k)
   unfolding sample_with
   sampled {k} l h = only_sample x k h ∙ passes x.plan_checks p 9 _ _ (le-ltb x.samples k l)
 
   -- what both orders share, where the rule's own values keep the lines
   shared :
       {m : Move} → Kept m x.samples x.product x.exact rule_at
-      → (sample : ℕ → Result ℕ Sample)
+      → (sample : ℕ → Result Sample ℕ)
       → ((k : ℕ) → k ≤ x.samples → Samples x k (sample k))
       → (old new : List ℤ) (rows : Result ℕ ℕ)
       → x.samples + 1 ≤ length old

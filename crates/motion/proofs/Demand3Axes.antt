@@ -8,7 +8,8 @@ use borrow.Author.Tests.{eq-eqb}
 use lib.IntN.{ℤ, ◌-ℤ◌, +ℤ_invr}
 use lib.ListN.{length, take, get_or}
 use Rattle.planner.specs.Intervals.{Intervals, N, P, D}
-use Rattle.planner.specs.Result.{Result, given, Each}
+use Rattle.planner.specs.Refusals.{Each}
+use Rattle.std.specs.Prelude.{Result, Ok}
 use Rattle.planner.specs.Outcome.{distance_of, intervals_of}
 use Rattle.planner.specs.Axes.{raised, at_rest, common_samples, axes_result, PlansAxes}
 use Rattle.planner.specs.AxesClaims.{axis_at, AcceptedAxis}
@@ -96,13 +97,13 @@ pub demand_3_axes : (count : ℕ) (moves : List Move) → Demand3AxesClaim count
 demand_3_axes count moves sent h o plans planned sample samples promised =
     let axes = take count moves in
     let n = common_samples axes in
-    let result : given n ≡ axes_result count moves = sym (accepted_axes_result count moves sent h) in
-    let given_n : o ≡ given n = planned.outcome_is ∙ sym result in
+    let result : Ok n ≡ axes_result count moves = sym (accepted_axes_result count moves sent h) in
+    let given_n : o ≡ Ok n = planned.outcome_is ∙ sym result in
     let kept_at = axis_kept axes (accepted_each count moves sent h) in
     record {
       N = n;
       planned = given_n;
-      duration = common_duration count moves sent n plans (subst (λ (o : Result (ℕ × ℕ) ℕ). PlansAxes count moves o plans) given_n planned);
+      duration = common_duration count moves sent n plans (subst (λ (o : Result ℕ (ℕ × ℕ)). PlansAxes count moves o plans) given_n planned);
       at = λ i k. axis_row n (axis_at moves i) k;
       answered = λ k l. (promised k l).outcome_is ∙ sym (result_given count moves k result l);
       placed = λ i k c l.

@@ -67,7 +67,6 @@ module _ {X : ℤ} {a : ℕ} {inner : List ℕ} {c e D : ℕ} {f : ℕ → ℤ} 
     unfolding sum sums sum_from
     sums_fit origin near k l x own =
         record {
-          sample = record { fits = omega arith };
           jerk = own;
           acceleration = small_fits _ (acceleration_below (2 ^ 60) reach_speed (suc k));
           velocity = small_fits _ (velocity_below (2 ^ 60) reach_speed (suc k));

@@ -7,7 +7,8 @@ use native.Mathlib.Omega.{arith}
 use lib.IntN.{neg_ℤ}
 use lib.ListN.{length, take, get_or}
 use Rattle.planner.specs.Intervals.{N, D}
-use Rattle.planner.specs.Result.{Each, given}
+use Rattle.planner.specs.Refusals.{Each}
+use Rattle.std.specs.Prelude.{Ok}
 use Rattle.planner.specs.Outcome.{distance_of, intervals_of, intervals_in}
 use Rattle.planner.specs.Third.{third_intervals_in}
 use Rattle.planner.specs.Axes.{rest_plan, raised, at_rest, axis_plan, common_samples}
@@ -28,7 +29,8 @@ use Rattle.motion.specs.Axes.{rest_sample}
 use Rattle.motion.specs.EndClaims.{fourth_ends, third_ends, axis_ends, EndRemainder, EndRemainderClaim}
 use Rattle.motion.specs.declared.Sample.{Sample}
 use Rattle.motion.proofs.RoundedValues.{with_rounding}
-use Rattle.motion.proofs.EntryLaws.{PlannedAs, fourth_planned, third_planned}
+use Rattle.motion.specs.Inner.Orders.{PlannedAs}
+use Rattle.motion.proofs.EntryLaws.{fourth_planned, third_planned}
 use Rattle.motion.proofs.KeptRules.{keeps, third_keeps, fourth_follows, third_follows}
 use Rattle.motion.proofs.KeptLaws.{sample_at}
 use Rattle.motion.proofs.EndRule.{remainder_end}
@@ -39,7 +41,7 @@ use Rattle.motion.proofs.AxesSampleRuns.{most, plan_is}
 -- the last sample of a plan
 last_sample :
     {x : Motion} {n : ℕ} {v : ℕ → Values} → PlannedAs x n v
-    → {last : Sample} → Samples x x.samples (given last)
+    → {last : Sample} → Samples x x.samples (Ok last)
     → last ≡ with_rounding x.start (v n)
 last_sample {x} {v = v} f s =
     rule_sample_lem x s

@@ -1,73 +1,56 @@
 -- From the planner's answer to what an entry promises: what it may do with a plan, in either order, and which refusal comes first.
 use mathlib.Core.Bool.{Bool, true, false}
 use mathlib.Core.List.{List, [], ◌∷◌, ◌++◌}
-use mathlib.Core.Path.{◌≡◌, sym, ap, subst, ◌∙◌}
-use Prim.Native.Nat.{ℕ, ◌+◌, ◌≤◌}
+use mathlib.Core.Path.{◌≡◌, sym, ap, ap₂, ◌∙◌, fun_ext}
+use Prim.Native.Nat.{ℕ, ◌≤◌}
 use native.Mathlib.Nat.{le_trans}
 use native.Mathlib.Omega.{arith}
 use lib.Ieee.{Float}
 use lib.IntN.{ℤ, nat_abs}
 use Rattle.planner.specs.Intervals.{Intervals, N}
-use Rattle.planner.specs.Result.{Each, Result, refused, given, Check, check, first_refusal}
-use Rattle.planner.specs.Outcome.{most_counts, distance_of, intervals_of, intervals_in, samples_of, plan_of, checks, outcome_of, Plans, outcome}
-use Rattle.planner.specs.Claims.{IsPlanned}
-use Rattle.planner.specs.Third.{N₃, third_intervals_of, third_intervals_in, third_samples_of, third_plan_of, third_checks, third_outcome_of, PlansThird, third_outcome}
+use Rattle.planner.specs.Refusals.{Each, Check, check, first_refusal}
+use Rattle.std.specs.Prelude.{Result, Ok, Err}
+use Rattle.planner.specs.Outcome.{most_counts, distance_of, intervals_of, intervals_in, samples_of, plan_of, checks, outcome_of, Plans}
+use Rattle.planner.specs.Third.{N₃, third_intervals_of, third_intervals_in, third_samples_of, third_plan_of, third_checks, third_outcome_of, PlansThird}
 use Rattle.planner.specs.Inner.Facts.{PlanFacts}
 use Rattle.planner.specs.Inner.ThirdFacts.{ThirdFacts}
 use Rattle.planner.specs.declared.Move.{Move}
 use Rattle.planner.specs.declared.Plan.{Plan}
-use Rattle.planner.specs.declared.PlanAnswer.{PlanAnswer}
-use Rattle.planner.specs.declared.PlanAnswer.TheVariants.{Refused}
-use Rattle.planner.specs.declared.Refusal.{Refusal}
 use Rattle.planner.specs.declared.ThirdPlan.{ThirdPlan}
-use Rattle.planner.specs.declared.ThirdAnswer.{ThirdAnswer}
-use Rattle.planner.specs.declared.ThirdAnswer.TheVariants.{Refused as NoThird}
 use Rattle.planner.proofs.Acceptance.{accepted_passes, third_passes}
 use Rattle.planner.proofs.FiguresChecks.{near_distance}
 use Rattle.planner.proofs.RefusalLaws.{Passes, stop, skip, none_left, all_pass, checks_joined}
-use Rattle.motion.specs.Sampling.{Values, values_at, values_of, third_values_of, Motion, fourth_order, third_order}
+use Rattle.motion.specs.Sampling.{values_at, values_of, third_values_of, fourth_order, third_order}
 use Rattle.motion.specs.ForceRows.Machine.{Machine, machine_as_read}
-use Rattle.motion.specs.ForceRows.Doubled.{Doubled}
+use Rattle.motion.specs.ForceRows.Doubled.{Doubled, doubled_values}
 use Rattle.motion.specs.ForceRows.Force.{force_row}
 use Rattle.motion.specs.Tables.{row_numbers, force}
-use Rattle.motion.specs.Inner.Planned.{WithinRange, ThirdPlanInRange, third_values_in, planned_numbers, planned_force}
-
--- an answer that is a refusal holds no plan
-pub not_planned : {r : PlanAnswer} {x : Refusal} → r ≡ Refused x → IsPlanned (outcome r) → ⊥
-not_planned q p = subst (λ (r : PlanAnswer). IsPlanned (outcome r)) q p
-
-pub not_third : {r : ThirdAnswer} {x : Refusal} → r ≡ NoThird x → IsPlanned (third_outcome r) → ⊥
-not_third q p = subst (λ (r : ThirdAnswer). IsPlanned (third_outcome r)) q p
+use Rattle.motion.specs.Inner.Orders.{PlannedAs}
+use Rattle.motion.specs.Inner.Planned.{WithinRange, ThirdPlanInRange, samples_in, fourth_values_in, third_values_in, planned_numbers, planned_force}
 
 -- what the planner refuses with is the first refusal of its checks
 pub plan_refused :
-    {m : Move} {o : Result ℕ Plan} {n : ℕ} → Plans m o → o ≡ refused n
-    → refused n ≡ first_refusal (checks m) (given (plan_of (distance_of m) (intervals_of m)))
+    {m : Move} {o : Result Plan ℕ} {n : ℕ} → Plans m o → o ≡ Err n
+    → Err n ≡ first_refusal (checks m) (Ok (plan_of (distance_of m) (intervals_of m)))
 unfolding outcome_of
 plan_refused h q = sym q ∙ h.outcome_is
 
 pub third_plan_refused :
-    {m : Move} {o : Result ℕ ThirdPlan} {n : ℕ} → PlansThird m o → o ≡ refused n
-    → refused n ≡ first_refusal (third_checks m) (given (third_plan_of (distance_of m) (third_intervals_of m)))
+    {m : Move} {o : Result ThirdPlan ℕ} {n : ℕ} → PlansThird m o → o ≡ Err n
+    → Err n ≡ first_refusal (third_checks m) (Ok (third_plan_of (distance_of m) (third_intervals_of m)))
 unfolding third_outcome_of
 third_plan_refused h q = sym q ∙ h.outcome_is
 
 -- where the planner refuses nothing, the entry's own checks are left
 module _ (xs : List (Check ℕ)) (p : Each Passes xs) where
-  pub own_checks : {A : Type 0} (own : List (Check ℕ)) (o : Result ℕ A) → first_refusal (xs ++ own) o ≡ first_refusal own o
+  pub own_checks : {A : Type 0} (own : List (Check ℕ)) (o : Result A ℕ) → first_refusal (xs ++ own) o ≡ first_refusal own o
   own_checks own o = checks_joined xs own o ∙ all_pass xs (first_refusal own o) p
 
-  pub applies : {A : Type 0} (n : ℕ) (t : Bool) (o : Result ℕ A) → t ≡ true → first_refusal (xs ++ (check n t ∷ [])) o ≡ refused n
+  pub applies : {A : Type 0} (n : ℕ) (t : Bool) (o : Result A ℕ) → t ≡ true → first_refusal (xs ++ (check n t ∷ [])) o ≡ Err n
   applies n t o k = own_checks (check n t ∷ []) o ∙ sym (stop k).is
 
-  pub passes : {A : Type 0} (n : ℕ) (t : Bool) (o : Result ℕ A) → t ≡ false → first_refusal (xs ++ (check n t ∷ [])) o ≡ o
+  pub passes : {A : Type 0} (n : ℕ) (t : Bool) (o : Result A ℕ) → t ≡ false → first_refusal (xs ++ (check n t ∷ [])) o ≡ o
   passes n t o k = own_checks (check n t ∷ []) o ∙ sym (skip k none_left).is
-
--- a plan with n samples and these values, as the rules of the motion x have it
-pub record PlannedAs (x : Motion) (n : ℕ) (v : ℕ → Values) : Type 0 where
-  pub pass : Each Passes x.plan_checks
-  pub samples_are : n ≡ x.samples
-  pub values_are : (k : ℕ) → v k ≡ x.values k
 
 -- the move was planned as x, in any intervals
 module _ {m : Move} {t : Intervals} {x : Plan} (f : PlanFacts m t x) where
@@ -98,16 +81,19 @@ module _ {m : Move} {x : Plan} (f : PlanFacts m (intervals_of m) x) where
         values_are = λ k. by_rule (λ x. values_at m.displacement (intervals_in x) x.snap k);
       }
 
-  pub rows_are : (trailing : ℕ) → N (intervals_in x) + trailing ≡ samples_of m + trailing
-  rows_are trailing = ap (λ (n : ℕ). n + trailing) fourth_planned.samples_are
-
-  pub numbers_are : planned_numbers m.displacement (intervals_in x) x.snap ≡ row_numbers m
-  unfolding row_numbers samples_of values_of
-  numbers_are = by_rule (λ x. planned_numbers m.displacement (intervals_in x) x.snap)
+-- the force rows of a plan that is the rule's
+module _ (m : Move) (x : Plan) (f : PlannedAs (fourth_order m) (samples_in x) (fourth_values_in m.displacement x)) where
+  same_numbers : planned_numbers m.displacement (intervals_in x) x.snap ≡ row_numbers m
+  unfolding row_numbers
+  same_numbers = ap₂ doubled_values f.samples_are (fun_ext f.values_are)
 
   pub force_is : (machine : Machine Float) (k : ℕ) → planned_force m.displacement (intervals_in x) x.snap machine k ≡ force m machine k
   unfolding force
-  force_is machine k = ap (λ (w : ℕ → Doubled ℤ). force_row (machine_as_read machine) w k) numbers_are
+  force_is machine k = ap (λ (w : ℕ → Doubled ℤ). force_row (machine_as_read machine) w k) same_numbers
+
+pub numbers_are :
+    {m : Move} {x : Plan} (f : PlanFacts m (intervals_of m) x) → planned_numbers m.displacement (intervals_in x) x.snap ≡ row_numbers m
+numbers_are {m = m} {x = x} f = same_numbers m x (fourth_planned f)
 
 -- in the third order
 module _ {m : Move} {x : ThirdPlan} (f : ThirdFacts m x) where

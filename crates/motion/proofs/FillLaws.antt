@@ -8,14 +8,18 @@ use borrow.Author.Tests.{lt-ltb, le-ltb, ltb-false}
 use lib.Dec.{ltb}
 use lib.IntN.{ℤ}
 use lib.ListN.{length, get_or, drop, length-append, get_or-append}
-use Rattle.planner.specs.Result.{Each, Result, refused, given, Check, check, first_refusal}
+use Rattle.planner.specs.Refusals.{Each, Check, check, first_refusal}
+use Rattle.std.specs.Prelude.{Result, Ok, Err}
 use Rattle.planner.proofs.EachLaws.{each_parts}
 use Rattle.planner.proofs.RefusalLaws.{Passes, passed, all_pass, refused_on}
 use Rattle.planner.proofs.ResultLaws.{same_given}
 use Rattle.motion.specs.Sampling.{Values, position_from, Motion}
 use Rattle.motion.specs.Tables.{rows_from, table_of, table_checks, table_result, Fills, FillsPositions, reference_row, FillsReference}
 use Rattle.motion.specs.Inner.Planned.{positions_from, RowsIn, WritesRows}
-use Rattle.motion.proofs.EntryLaws.{PlannedAs, own_checks}
+use Rattle.motion.specs.Answer.{number, outcome}
+use Rattle.motion.specs.declared.MotionRefusal.{MotionRefusal}
+use Rattle.motion.specs.Inner.Orders.{PlannedAs, RefusedAs}
+use Rattle.motion.proofs.EntryLaws.{own_checks}
 
 length_rows : {A : Type 0} (row : ℕ → A) (k n : ℕ) → length (rows_from row k n) ≡ n
 unfolding rows_from
@@ -31,11 +35,11 @@ row_at row x j (suc n) (suc k) h = row_at row x (suc j) n k (omega arith) ∙ ap
 
 module _ {A : Type 0} {rows : ℕ} {row : ℕ → A} {old : List A} where
   -- a plan and a table: refusal 8, the first of the entry's own, and the rows
-  pub short : (own : List (Check ℕ)) → length old < rows → WritesRows own rows row old (refused 8) old
+  pub short : (own : List (Check ℕ)) → length old < rows → WritesRows own rows row old (Err 8) old
   unfolding first_refusal table_of
   short own l = record { outcome_is = rw (lt-ltb (length old) rows l) refl; table_is = refl }
 
-  pub own_refused : (n : ℕ) (test : Bool) → rows ≤ length old → test ≡ true → WritesRows (check n test ∷ []) rows row old (refused n) old
+  pub own_refused : (n : ℕ) (test : Bool) → rows ≤ length old → test ≡ true → WritesRows (check n test ∷ []) rows row old (Err n) old
   unfolding first_refusal table_of
   own_refused n test l h = record { outcome_is = rw (le-ltb (length old) rows l, h) refl; table_is = refl }
 
@@ -45,24 +49,25 @@ module _ {A : Type 0} {rows : ℕ} {row : ℕ → A} {old : List A} where
       → rows ≤ length old
       → Each Passes own
       → RowsIn rows row old new
-      → WritesRows own rows row old (given n) new
+      → WritesRows own rows row old (Ok n) new
   unfolding first_refusal table_of
   written own count l p h =
       record {
         outcome_is =
-            ap given count
-            ∙ sym (ap (λ (t : Bool). first_refusal (check 8 t ∷ own) (given rows)) (le-ltb (length old) rows l)
-            ∙ all_pass own (given rows) p);
+            ap Ok count
+            ∙ sym (ap (λ (t : Bool). first_refusal (check 8 t ∷ own) (Ok rows)) (le-ltb (length old) rows l)
+            ∙ all_pass own (Ok rows) p);
         table_is = h.table_is ∙ ap (λ (n : ℕ). rows_from row 0 rows ++ drop n old) (sym (length_rows row 0 rows));
       }
 
   -- a move in either order and a table
   module _ {x : Motion} {own : List (Check ℕ)} where
-    pub fills_refused : {Y : Type 0} (y : Y) (n : ℕ) → refused n ≡ first_refusal x.plan_checks (given y) → Fills x own rows row old (refused n) old
+    pub fills_refused :
+        {P : Type 0} {e : MotionRefusal} {r : Result ℕ MotionRefusal} → RefusedAs P x (number e) → r ≡ Err e → Fills x own rows row old (outcome r) old
     unfolding table_result table_of
-    fills_refused y n h =
-        let first = refused_on x.plan_checks (check 8 (ltb (length old) rows) ∷ own) y (given rows) n h in
-        record { outcome_is = first; table_is = ap (λ (r : Result ℕ ℕ). table_of r (rows_from row 0 rows) old) first }
+    fills_refused {e = e} h is =
+        let first = refused_on x.plan_checks (check 8 (ltb (length old) rows) ∷ own) h.plan (Ok rows) (number e) h.is in
+        rw is (record { outcome_is = first; table_is = ap (λ (r : Result ℕ ℕ). table_of r (rows_from row 0 rows) old) first })
 
     pub fills :
         {planRows : ℕ} {planRow : ℕ → A} {new : List A} {o : Result ℕ ℕ}
@@ -75,8 +80,8 @@ module _ {A : Type 0} {rows : ℕ} {row : ℕ → A} {old : List A} where
     fills h count same w =
         let result =
         w.outcome_is
-        ∙ ap (λ (n : ℕ). first_refusal (check 8 (ltb (length old) n) ∷ own) (given n)) count
-        ∙ sym (own_checks x.plan_checks h (check 8 (ltb (length old) rows) ∷ own) (given rows)) in
+        ∙ ap (λ (n : ℕ). first_refusal (check 8 (ltb (length old) n) ∷ own) (Ok n)) count
+        ∙ sym (own_checks x.plan_checks h (check 8 (ltb (length old) rows) ∷ own) (Ok rows)) in
         record {
           outcome_is = result;
           table_is =
@@ -93,13 +98,13 @@ module _ {A : Type 0} {rows : ℕ} {row : ℕ → A} {old : List A} where
         (pass : Each Passes own)
         (filled : Fills x own rows row old o new)
       where
-        all_filled : table_result x own rows (length old) ≡ given rows
+        all_filled : table_result x own rows (length old) ≡ Ok rows
         unfolding table_result
         all_filled =
-            own_checks x.plan_checks h (check 8 (ltb (length old) rows) ∷ own) (given rows)
-            ∙ all_pass (check 8 (ltb (length old) rows) ∷ own) (given rows) (le-ltb (length old) rows room, pass)
+            own_checks x.plan_checks h (check 8 (ltb (length old) rows) ∷ own) (Ok rows)
+            ∙ all_pass (check 8 (ltb (length old) rows) ∷ own) (Ok rows) (le-ltb (length old) rows room, pass)
 
-        pub filled_outcome : o ≡ given rows
+        pub filled_outcome : o ≡ Ok rows
         filled_outcome = filled.outcome_is ∙ all_filled
 
         filled_table : new ≡ rows_from row 0 rows ++ drop (length (rows_from row 0 rows)) old
@@ -123,7 +128,7 @@ module _ {A : Type 0} {rows : ℕ} {row : ℕ → A} {old : List A} where
             ∙ ap row (omega arith)
 
     -- a table that was filled: no check applied, so all that was sent was in range
-    module _ {n : ℕ} {new : List A} (filled : Fills x own rows row old (given n) new) where
+    module _ {n : ℕ} {new : List A} (filled : Fills x own rows row old (Ok n) new) where
       none_applies : Each Passes x.plan_checks × Each Passes (check 8 (ltb (length old) rows) ∷ own)
       unfolding table_result
       none_applies =

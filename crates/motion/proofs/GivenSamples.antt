@@ -6,7 +6,8 @@ use borrow.Author.Tests.{ltb-false}
 use lib.Dec.{ltb}
 use lib.IntN.{pos}
 use lib.ListN.{length, take, get_or}
-use Rattle.planner.specs.Result.{Each, given, Check, check}
+use Rattle.planner.specs.Refusals.{Each, Check, check}
+use Rattle.std.specs.Prelude.{Ok}
 use Rattle.planner.specs.Axes.{most_axes, common_samples, axes_checks, axes_result}
 use Rattle.planner.specs.AxesClaims.{axis_at, AcceptedAxis}
 use Rattle.planner.specs.declared.Move.{Move}
@@ -24,7 +25,7 @@ use Rattle.motion.proofs.AxisSampling.{axis_row}
 use Rattle.motion.proofs.AxesSampling.{sampled_row}
 use Rattle.motion.proofs.Demand3Axes.{axis_kept}
 
-module _ (x : Motion) {k : ℕ} {s : Sample} (h : Samples x k (given s)) where
+module _ (x : Motion) {k : ℕ} {s : Sample} (h : Samples x k (Ok s)) where
   pub move_passed : Each Passes x.plan_checks
   unfolding sample_with
   move_passed =
@@ -37,7 +38,7 @@ module _ (x : Motion) {k : ℕ} {s : Sample} (h : Samples x k (given s)) where
 -- one axis of a set
 module _
     {count : ℕ} {moves : List Move} (sent : length moves ≡ most_axes) {k : ℕ} {samples : List Sample}
-    (h : SamplesAxes count moves k (given tt) samples) {i : ℕ} (c : i < count)
+    (h : SamplesAxes count moves k (Ok tt) samples) {i : ℕ} (c : i < count)
   where
     abbrev axes : List Move
     axes = take count moves
@@ -52,9 +53,9 @@ module _
     unfolding axes_sample_result
     both = each_parts Passes (axes_checks count moves) (own ∷ []) (passed (axes_sample_checks count moves k) tt tt (sym h.outcome_is))
 
-    set_given : given common ≡ axes_result count moves
+    set_given : Ok common ≡ axes_result count moves
     unfolding axes_result
-    set_given = sym (all_pass (axes_checks count moves) (given common) both.0)
+    set_given = sym (all_pass (axes_checks count moves) (Ok common) both.0)
 
     counted : i < length axes
     counted = within count moves sent (count_most count moves set_given) i c

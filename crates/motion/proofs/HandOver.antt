@@ -3,7 +3,8 @@ use mathlib.Core.Path.{◌≡◌, sym, ap, subst, ◌∙◌}
 use Prim.Native.Nat.{ℕ}
 use lib.IntN.{ℤ, pos, neg_ℤ, ◌+ℤ◌, ◌-ℤ◌, +ℤ_idl, +ℤ_invr, neg_ℤ-neg_ℤ, -ℤ-+ℤ_cancel}
 use Rattle.planner.specs.Quantities.{along}
-use Rattle.planner.specs.Result.{Each, given}
+use Rattle.planner.specs.Refusals.{Each}
+use Rattle.std.specs.Prelude.{Ok}
 use Rattle.planner.specs.Claims.{InSpan}
 use Rattle.planner.specs.AxesClaims.{axis_at}
 use Rattle.planner.specs.declared.Move.{Move}
@@ -36,7 +37,7 @@ third_lines : (m : Move) → Lines m (third_order m)
 third_lines m p = third_kept m (third_passed m p)
 
 -- the first sample stands at the start
-first_in : {m : Move} (x : Motion) → Lines m x → {s : Sample} → Samples x 0 (given s) → s.position ≡ units_of m.start
+first_in : {m : Move} (x : Motion) → Lines m x → {s : Sample} → Samples x 0 (Ok s) → s.position ≡ units_of m.start
 first_in x lines h = ap (λ (s : Sample). s.position) (rule_sample_lem x h) ∙ (lines (move_passed x h)).position_rest
 
 first_position : {m : Move} {s : Sample} → SampledAt 0 m s → s.position ≡ units_of m.start
@@ -65,7 +66,7 @@ ends_sampled (third_ends m plan p last h) = rounded_from_start _ m last (in_thir
 ends_sampled (axis_ends count moves sent N plans p samples h i c) = rounded_from_start _ _ _ (in_set count moves sent samples h i c)
 
 last_in :
-    {m : Move} (x : Motion) → Lines m x → {s : Sample} → Samples x x.samples (given s) → s.count ≡ m.start +ℤ m.displacement
+    {m : Move} (x : Motion) → Lines m x → {s : Sample} → Samples x x.samples (Ok s) → s.count ≡ m.start +ℤ m.displacement
 last_in x lines h = ap (λ (s : Sample). s.count) (rule_sample_lem x h) ∙ (lines (move_passed x h)).count_end
 
 end_counted : {m : Move} {shortfall : ℕ} {last : Sample} → EndsAt m shortfall last → last.count ≡ m.start +ℤ m.displacement

@@ -15,25 +15,18 @@ pub mod StateLaws
 -- One sample by the closed form.
 pub mod FallingFactorials
 pub mod ClosedStates
+-- What the functions that give one sample share.
+pub mod OneSample
 -- A table: runs of stores, the segments, and the rows that they leave.
-pub mod RunLaws
-pub mod SegmentLaws
-pub mod ListedLaws
-pub mod RowLaws
+pub mod StretchRows
+pub mod StretchLaws
+pub mod PairedLaws
 pub mod TableLaws
-pub mod SegmentRuns
 -- The switched value by the widths; the third order's sums, and its runs; the positions of both orders.
 pub mod DirectedValue
 pub mod ThirdStates
-pub mod JerkRuns
-pub mod PositionLaws
--- What the functions that give one sample share.
-pub mod OneSample
 -- Reference rows: pairs of values, and their runs.
 pub mod PairLaws
-pub mod PairRuns
-pub mod OrderRunLaws
-pub mod PairSizes
 pub mod ReferenceLaws
 -- The rows of a force table, and what they are exactly.
 pub mod ForceRows
@@ -44,6 +37,8 @@ pub mod AxisSampling
 pub mod AxesSampling
 pub mod AxesSampleRuns
 pub mod FillLaws
+pub mod OrderLaws
+pub mod AlongLaws
 pub mod AnswerLaws
 pub mod RefusalTheorems
 -- Demand 3, line by line, and whole.

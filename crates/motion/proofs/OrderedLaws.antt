@@ -4,7 +4,7 @@ use mathlib.Core.Path.{◌≡◌, ap, ◌∙◌}
 use Prim.Native.Nat.{ℕ, ◌≤◌}
 use lib.IntN.{ℤ}
 use Rattle.planner.specs.Intervals.{Intervals, p, q, r, s, N}
-use Rattle.planner.specs.Third.{ThirdIntervals, N₃}
+use Rattle.planner.specs.Third.{ThirdIntervals}
 use Rattle.planner.specs.Inner.Facts.{Ordered}
 use Rattle.planner.specs.Inner.ThirdFacts.{ThirdOrdered}
 use Rattle.profile.specs.Profile as profile
@@ -47,7 +47,3 @@ module _ (t : ThirdIntervals) (D : ℕ) where
 module _ {t : ThirdIntervals} (o : ThirdOrdered t) where
   pub third_spread : Spread t.b (third_widths_of t)
   third_spread = orders.third_spread t.b t.c t.e o.b_c o.bc_e
-
-  pub third_samples : samples (third_segments t) ≡ N₃ t
-  unfolding span
-  third_samples = ap samples (orders.seven t.b t.c t.e) ∙ samples_switched t.b (third_widths_of t) third_spread

@@ -8,7 +8,7 @@ use lib.IntN.{ℤ, pos, neg_ℤ, nat_abs, ◌-ℤ◌, ◌*ℤ◌}
 use lib.ListN.{length, get_or}
 use lib.Signed.{◌≤ℤ◌, ◌<ℤ◌}
 use Rattle.planner.specs.Quantities.{units_per_count}
-use Rattle.planner.specs.Result.{Result}
+use Rattle.std.specs.Prelude.{Result}
 use Rattle.planner.specs.Outcome.{samples_of}
 use Rattle.planner.specs.Third.{third_samples_of}
 use Rattle.planner.specs.declared.Move.{Move}
@@ -46,7 +46,7 @@ module _ (m : Move) (x : Motion) (jerk : ℕ → ℤ) (table : List ℤ) where
     pub velocity_ended : sum (sum jerk) x.samples ≡ pos 0
 
 module _
-    {m : Move} {x : Motion} {sample : ℕ → Result ℕ Sample} {table : List ℤ}
+    {m : Move} {x : Motion} {sample : ℕ → Result Sample ℕ} {table : List ℤ}
     (moves : 1 ≤ nat_abs m.displacement) (d : Demand3Of m x sample table)
   where
     abbrev jerk_at : ℕ → ℤ
@@ -117,7 +117,7 @@ pub record PlayedSnap (m : Move) (snap jerk : ℕ → ℤ) : Type 0 where
   pub snap_most : (k : ℕ) → k ≤ samples_of m → nat_abs (snap k) ≤ m.snap
 
 pub played_snap :
-    {m : Move} {sample : ℕ → Result ℕ Sample} {table : List ℤ} (d : Demand3 m sample table)
+    {m : Move} {sample : ℕ → Result Sample ℕ} {table : List ℤ} (d : Demand3 m sample table)
     → PlayedSnap m (λ k. (d.shared.at k).snap) (λ k. (d.shared.at k).jerk)
 played_snap d =
     record {
@@ -132,7 +132,7 @@ pub record PlayedThird (m : Move) (snap : ℕ → ℤ) (table : List ℤ) : Type
   pub snap_none : (k : ℕ) → k ≤ third_samples_of m → snap k ≡ pos 0
 
 pub played_third :
-    {m : Move} {sample : ℕ → Result ℕ Sample} {table : List ℤ} → 1 ≤ nat_abs m.displacement
+    {m : Move} {sample : ℕ → Result Sample ℕ} {table : List ℤ} → 1 ≤ nat_abs m.displacement
     → (d : ThirdDemand3 m sample table)
     → PlayedThird m (λ k. (d.shared.at k).snap) table
 played_third {m} moves d =

@@ -8,7 +8,7 @@ use native.Mathlib.Omega.{arith}
 use lib.IntN.{ℤ, pos, neg_ℤ, ◌+ℤ◌, ◌-ℤ◌, ◌*ℤ◌, +ℤ_assoc, +ℤ_idr, +ℤ-neg_ℤ_cancel}
 use lib.ListN.{get_or}
 use lib.Signed.{◌≤ℤ◌, ◌<ℤ◌, ≤ℤ_refl}
-use Rattle.planner.specs.Result.{Each}
+use Rattle.planner.specs.Refusals.{Each}
 use Rattle.planner.specs.declared.Move.{Move}
 use Rattle.planner.proofs.RefusalLaws.{Passes}
 use Rattle.planner.proofs.ResultLaws.{same_given}

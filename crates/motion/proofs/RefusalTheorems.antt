@@ -11,7 +11,8 @@ use lib.Dec.{ltb}
 use lib.Ieee.{Float}
 use lib.IntN.{ℤ}
 use lib.ListN.{length}
-use Rattle.planner.specs.Result.{Each, Result, refused, given, Check, check, first_refusal}
+use Rattle.planner.specs.Refusals.{Each, Check, check, first_refusal}
+use Rattle.std.specs.Prelude.{Result, Ok, Err}
 use Rattle.planner.specs.Order.{rank, FirstToApply}
 use Rattle.planner.specs.Third.{third_intervals_of, third_samples_of, third_checks}
 use Rattle.planner.specs.declared.Move.{Move}
@@ -30,12 +31,12 @@ use Rattle.motion.proofs.EntryLaws.{own_checks}
 -- With an accepted move the entry's own checks decide.
 by_own :
     {A : Type 0} (xs : List (Check ℕ)) → Each Passes xs
-    → (own : List (Check ℕ)) (x : A) {o : Result ℕ A} {Reason : ℕ → Type 0}
-    → o ≡ first_refusal (xs ++ own) (given x)
+    → (own : List (Check ℕ)) (x : A) {o : Result A ℕ} {Reason : ℕ → Type 0}
+    → o ≡ first_refusal (xs ++ own) (Ok x)
     → ((n : ℕ) → FirstToApply n own ↔ Reason n)
     → RefusedBy o Reason
 by_own {A} xs h own x is reason n =
-    let left = is ∙ own_checks xs h own (given x) in
+    let left = is ∙ own_checks xs h own (Ok x) in
     Iff.trans (λ q. sym left ∙ q, λ q. left ∙ q) (Iff.trans (first_given ℕ A own x n) (reason n))
 
 -- One check, and what its test says.
@@ -82,14 +83,14 @@ module _ (machine : Machine Float) (rows places : ℕ) where
 -- A refusal writes nothing, whatever the rows are.
 refused_leaves :
     {A : Type 0} {x : Motion} {own : List (Check ℕ)} {rows : ℕ} {row : ℕ → A} {old new : List A} {n : ℕ}
-    → Fills x own rows row old (refused n) new
+    → Fills x own rows row old (Err n) new
     → new ≡ old
 unfolding table_of
 refused_leaves {rows} {row} {old} {n} f =
     f.table_is ∙ ap (λ (r : Result ℕ ℕ). table_of r (rows_from row 0 rows) old) (sym f.outcome_is)
 
 module _ (x : Motion) (h : Each Passes x.plan_checks) where
-  sample_refusals : (k : ℕ) (o : Result ℕ Sample) → Samples x k o → RefusedBy o (Only 9 (x.samples < k))
+  sample_refusals : (k : ℕ) (o : Result Sample ℕ) → Samples x k o → RefusedBy o (Only 9 (x.samples < k))
   unfolding sample_with
   sample_refusals k o p = by_own x.plan_checks h (check 9 (ltb x.samples k) ∷ []) _ p.outcome_is (below_reason 9 x.samples k)
 
@@ -151,7 +152,7 @@ motion_order m =
 
 -- no check of a third-order entry has the number 6
 third_never_six :
-    {A : Type 0} (m : Move) (n : ℕ) (t : Bool) (x : A) → OtherThanSix n → refused 6 ≡ first_refusal (third_checks m ++ (check n t ∷ [])) (given x) → ⊥
+    {A : Type 0} (m : Move) (n : ℕ) (t : Bool) (x : A) → OtherThanSix n → Err 6 ≡ first_refusal (third_checks m ++ (check n t ∷ [])) (Ok x) → ⊥
 third_never_six m n t x h q =
     let own : List (Check ℕ) = check n t ∷ [] in
     omega (
@@ -159,7 +160,7 @@ third_never_six m n t x h q =
       (refusal_has OtherThanSix (third_checks m ++ own) x (each_joined (Has OtherThanSix) (third_checks m) own (third_checks_other m) (h, tt)) 6 (sym q)).1,
     )
 
-table_never_six : (m : Move) {rows : ℕ} {row : ℕ → ℤ} {old new : List ℤ} → Fills (third_order m) [] rows row old (refused 6) new → ⊥
+table_never_six : (m : Move) {rows : ℕ} {row : ℕ → ℤ} {old new : List ℤ} → Fills (third_order m) [] rows row old (Err 6) new → ⊥
 unfolding table_result
 table_never_six m p = third_never_six m 8 _ _ (omega arith) p.outcome_is
 

@@ -7,7 +7,8 @@ use native.Mathlib.Nat.{le_of_eq, le_refl}
 use native.Mathlib.Omega.{arith}
 use lib.IntN.{ℤ, pos, ◌+ℤ◌}
 use lib.ListN.{length, replicate, length-replicate}
-use Rattle.planner.specs.Result.{Each, Result, given, Check}
+use Rattle.planner.specs.Refusals.{Each, Check}
+use Rattle.std.specs.Prelude.{Result, Ok}
 use Rattle.planner.specs.Outcome.{distance_of, intervals_of, samples_of, plan_of}
 use Rattle.planner.specs.Claims.{EndsInSpan, Accepted, mirrored}
 use Rattle.planner.specs.ThirdClaims.{ThirdAccepted}
@@ -80,7 +81,7 @@ rule_third_demand_3 m h =
 
 -- the rule's own sample is given, for a move that the planner does not refuse
 rule_given :
-    (x : Motion) (p : Each Passes x.plan_checks) {k : ℕ} → k ≤ x.samples → Samples x k (given (rule_at x p k))
+    (x : Motion) (p : Each Passes x.plan_checks) {k : ℕ} → k ≤ x.samples → Samples x k (Ok (rule_at x p k))
 rule_given x p {k} l = rule_samples_lem x k (sym (sampled x p l (rule_samples_lem x k refl)))
 
 -- the reference rows of the rule itself, for a move that the planner does not refuse

@@ -7,7 +7,8 @@ use native.Mathlib.Omega.{arith}
 use borrow.Author.Tests.{lt-ltb, le-ltb}
 use lib.IntN.{pos}
 use Rattle.planner.specs.Intervals.{Intervals, N, D}
-use Rattle.planner.specs.Result.{Result, refused, given, padded}
+use Rattle.planner.specs.Refusals.{padded}
+use Rattle.std.specs.Prelude.{Result, Ok, Err}
 use Rattle.planner.specs.Outcome.{distance_of, intervals_of, samples_of, intervals_in, checks, outcome_of}
 use Rattle.planner.specs.Axes.{most_axes, raised, common_samples, axes_result}
 use Rattle.planner.specs.AxesClaims.{outcome_of_one, places_of_one}
@@ -39,29 +40,29 @@ module _ (m : Move) (k : ℕ) where
       ∙ ap (λ (t : Intervals). values_at m.displacement t (D t (distance_of m)) k) own)
 
 module _ (m : Move) (others : List Move) (k : ℕ) where
-  abbrev Alone : Result ℕ Sample → Type 0
+  abbrev Alone : Result Sample ℕ → Type 0
   Alone o = SamplesAxes 1 (m ∷ others) k (outcome_of_one (λ x. tt) o) (places_of_one (rest_sample (pos 0)) o)
 
-  abbrev Planned : Result ℕ Plan → Type 0
+  abbrev Planned : Result Plan ℕ → Type 0
   Planned o = outcome_of_one (λ x. N (intervals_in x)) o ≡ axes_result 1 (m ∷ others)
 
   planned : Planned (outcome_of m)
   planned = (set_of_one m others (outcome_of m) (record { outcome_is = refl })).outcome_is
 
-  refused_alone : (n : ℕ) → outcome_of m ≡ refused n → Alone (refused n)
+  refused_alone : (n : ℕ) → outcome_of m ≡ Err n → Alone (Err n)
   refused_alone n h = samples_refused 1 (m ∷ others) k (subst Planned h planned)
 
   module _ (h : Accepted m) (r : Rounding (values_of m k).position) where
-    set_given : given (N (intervals_of m)) ≡ axes_result 1 (m ∷ others)
+    set_given : Ok (N (intervals_of m)) ≡ axes_result 1 (m ∷ others)
     set_given = subst Planned (accepted_outcome m h) planned
 
-    within : k ≤ N (intervals_of m) → Alone (given (sample_of m.start (values_of m k) r))
+    within : k ≤ N (intervals_of m) → Alone (Ok (sample_of m.start (values_of m k) r))
     within l =
         samples_given 1 (m ∷ others) k set_given l
         (placed_rows 1 (m ∷ others) k
         (ap (λ (x : Sample). padded most_axes (rest_sample (pos 0)) (x ∷ [])) (row_of (common_samples (m ∷ [])) m k (same_values m k h) r)))
 
-    past : N (intervals_of m) < k → Alone (refused 9)
+    past : N (intervals_of m) < k → Alone (Err 9)
     past = samples_past 1 (m ∷ others) k set_given
 
     accepted_alone : Alone (sample_with (fourth_order m) k r)
@@ -74,11 +75,11 @@ module _ (m : Move) (others : List Move) (k : ℕ) where
               subst Alone (sym (applies (checks m) (accepted_passes m h) 9 _ _ (lt-ltb (N (intervals_of m)) k l))) (past l)
         ]
 
-  by_outcome : (p : Result ℕ Plan) → outcome_of m ≡ p → (r : Rounding (values_of m k).position) → Alone (sample_with (fourth_order m) k r)
+  by_outcome : (p : Result Plan ℕ) → outcome_of m ≡ p → (r : Rounding (values_of m k).position) → Alone (sample_with (fourth_order m) k r)
   unfolding sample_with outcome_of
-  by_outcome (refused n) q r =
+  by_outcome (Err n) q r =
       subst Alone (refused_on (checks m) _ _ _ n (sym q)) (refused_alone n q)
-  by_outcome (given x) q r = accepted_alone ((rule_accepted m).0 (subst IsPlanned (sym q) tt)) r
+  by_outcome (Ok x) q r = accepted_alone ((rule_accepted m).0 (subst IsPlanned (sym q) tt)) r
 
 pub sample_of_one : SampleOfOneClaim
 sample_of_one m others k o s =

@@ -5,7 +5,7 @@ use Prim.Native.Nat.{ℕ, zero, suc, ◌<◌}
 use native.Mathlib.Omega.{arith}
 use lib.IntN.{ℤ, pos, ◌+ℤ◌, ◌*ℤ◌, +ℤ_idl}
 use lib.ListN.{length, get_or, take, length-map}
-use Rattle.planner.specs.Result.{given}
+use Rattle.std.specs.Prelude.{Ok}
 use Rattle.planner.specs.Outcome.{intervals_of, samples_of}
 use Rattle.planner.specs.Third.{third_intervals_of, third_samples_of}
 use Rattle.planner.specs.Axes.{most_axes, common_samples}
@@ -55,7 +55,7 @@ rounded start v =
 module _
     (x y : Motion) (zero : y.start ≡ pos 0) (samples : y.samples ≡ x.samples) (values : y.values ≡ x.values)
   where
-    sample_gained : {k : ℕ} {s z : Sample} → Samples x k (given s) → Samples y k (given z) → s ≡ gained x.start z
+    sample_gained : {k : ℕ} {s z : Sample} → Samples x k (Ok s) → Samples y k (Ok z) → s ≡ gained x.start z
     sample_gained {k} p q =
         rule_sample_lem x p ∙ rounded x.start (x.values k)
         ∙ ap (gained x.start)
@@ -63,7 +63,7 @@ module _
 
     positions_gained :
         (old old' new new' : List ℤ) (n n' : ℕ)
-        → FillsPositions x old (given n) new → FillsPositions y old' (given n') new'
+        → FillsPositions x old (Ok n) new → FillsPositions y old' (Ok n') new'
         → (k : ℕ) → k < n → get_or new k (pos 0) ≡ units_of x.start +ℤ get_or new' k (pos 0)
     unfolding FillsPositions
     positions_gained old old' new new' n n' p q k l =
@@ -76,7 +76,7 @@ module _
 
     reference_gained :
         (old old' new new' : List ℤ) (n n' : ℕ)
-        → FillsReference x old (given n) new → FillsReference y old' (given n') new'
+        → FillsReference x old (Ok n) new → FillsReference y old' (Ok n') new'
         → (k : ℕ) → k < n → get_or new k (pos 0) ≡ pos 2 *ℤ units_of x.start +ℤ get_or new' k (pos 0)
     unfolding FillsReference reference_row
     reference_gained old old' new new' n n' p q k l =
@@ -104,7 +104,7 @@ module _ (count : ℕ) (moves : List Move) (sent : length moves ≡ most_axes) w
 
   axis_gained :
       {k : ℕ} {samples zeros : List Sample}
-      → SamplesAxes count moves k (given tt) samples → SamplesAxes count (map from_zero moves) k (given tt) zeros
+      → SamplesAxes count moves k (Ok tt) samples → SamplesAxes count (map from_zero moves) k (Ok tt) zeros
       → (i : ℕ) → i < count
       → get_or samples i (rest_sample (pos 0)) ≡ gained (axis_at moves i).start (get_or zeros i (rest_sample (pos 0)))
   axis_gained {k} p q i l =

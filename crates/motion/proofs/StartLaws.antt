@@ -40,20 +40,13 @@ module _ (start : ℤ) (h : nat_abs start ≤ most_counts) where
   pub count_fits : (x c r : ℤ) → nat_abs x ≤ 2 ^ 61 → RoundsTo x c r → SFits w64 (start +ℤ c)
   count_fits x c r l is = wide_sum_fits start c (omega (arith, h)) (omega (arith, count_size x c r l is))
 
-  -- of a reference row with no distance
-  pub twice_size : nat_abs (units_of start +ℤ units_of start) ≤ 2 ^ 61
-  twice_size = omega (arith, size_sum (units_of start) (units_of start), units_size)
+-- a start that is passed on is read back as it is, and so are its units
+module _ (start : ℤ) (h : nat_abs start ≤ most_counts) where
+  start_read : to_z w64 (of_z w64 start) ≡ start
+  start_read = to_z-of_z (small_fits start (omega (arith, h)))
 
-  pub twice_fits : SFits w64 (units_of start +ℤ units_of start)
-  twice_fits = position_fits (units_of start) units_size
-
--- a start that is passed on is read back as it is, and so is what is made of it
-module _ (start : ℤ) (h : SFits w64 start) where
-  pub start_passed : nat_abs start ≤ most_counts → nat_abs (to_z w64 (of_z w64 start)) ≤ most_counts
-  start_passed l = subst (λ (x : ℤ). nat_abs x ≤ most_counts) (sym (to_z-of_z h)) l
-
-  pub made_of_start : (f : ℤ → ℤ) (r : ℤ) → SFits w64 r → r ≡ f (to_z w64 (of_z w64 start)) → to_z w64 (of_z w64 r) ≡ f start
-  made_of_start f r k is = to_z-of_z k ∙ is ∙ ap f (to_z-of_z h)
+  pub units_passed : {r : ℤ} → SFits w64 r → r ≡ units_of (to_z w64 (of_z w64 start)) → to_z w64 (of_z w64 r) ≡ units_of start
+  units_passed k is = to_z-of_z k ∙ is ∙ ap units_of start_read
 
 -- a sample of these values from this start, by what they are
 pub same_sample : {start start' : ℤ} {v v' : Values} {r : Sample} → start ≡ start' → v ≡ v' → IsSampleOf start v r → IsSampleOf start' v' r

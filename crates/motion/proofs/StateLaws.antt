@@ -27,7 +27,6 @@ use Rattle.motion.proofs.DirectedSizes as sizes
 abbrev pub directed : ℤ → Intervals → (D k : ℕ) → State
 directed X t D k =
     record {
-      sample = k;
       jerk = (values_at X t D k).jerk;
       acceleration = (values_at X t D k).acceleration;
       velocity = (values_at X t D k).velocity;
@@ -45,7 +44,7 @@ module _ (X : ℤ) (t : Intervals) (D : ℕ) where
   pub state_is : (k : ℕ) → state_at (directed_snap X t D) k ≡ directed X t D k
   unfolding values_at profile.jerk profile.acceleration profile.velocity profile.position sums
   state_is k =
-      λ i. record { sample = k; jerk = sums_are 1 k i; acceleration = sums_are 2 k i; velocity = sums_are 3 k i; position = sums_are 4 k i }
+      λ i. record { jerk = sums_are 1 k i; acceleration = sums_are 2 k i; velocity = sums_are 3 k i; position = sums_are 4 k i }
 
   -- the jerk is that over its widths
   directed_jerk_lem : sum (directed_snap X t D) ≡ (λ k. along X (fourth_jerk t D k))

@@ -11,8 +11,8 @@ use Rattle.profile.specs.Inner.Repeated.{sums}
 use Rattle.profile.specs.Inner.Widths.{product}
 use Rattle.profile.proofs.SumSizes as size
 use Rattle.motion.specs.Sampling.{Values, third_values_at}
-use Rattle.motion.specs.Inner.Steps.{StepFits, sum_from, third_state_at, third_state_from}
-use Rattle.motion.specs.Inner.Planned.{ThirdWithinRange, third_widths_of, values_in}
+use Rattle.motion.specs.Inner.Steps.{StepFits, sum_from, third_state_from}
+use Rattle.motion.specs.Inner.Planned.{ThirdWithinRange, third_widths_of}
 use Rattle.motion.specs.Inner.SegmentLists.{third_segments}
 use Rattle.motion.proofs.IntegerLaws.{small_fits}
 use Rattle.motion.proofs.OrderedLaws.{third_spread, third_jerk, third_jerk_lem}
@@ -27,8 +27,19 @@ module _ (X : ℤ) (t : ThirdIntervals) (D : ℕ) where
   sums_are : (n k : ℕ) → sums n directed_jerk k ≡ along X (sums n (switched_in (third_segments t) D) k)
   sums_are n k = along_sums X n (switched_in (third_segments t) D) k
 
-  -- the state at sample k has the values of the profile
-  pub third_values : (k : ℕ) → values_in (pos 0) (third_state_at directed_jerk k) ≡ third_values_at X t D k
+  -- the sums at sample k
+  abbrev pub summed_values : ℕ → Values
+  summed_values k =
+      record {
+        snap = pos 0;
+        jerk = directed_jerk k;
+        acceleration = sums 1 directed_jerk k;
+        velocity = sums 2 directed_jerk k;
+        position = sums 3 directed_jerk k;
+      }
+
+  -- are the values of the profile
+  pub third_values : (k : ℕ) → summed_values k ≡ third_values_at X t D k
   unfolding third_values_at sums
   third_values k =
       λ i.

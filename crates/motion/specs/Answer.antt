@@ -1,16 +1,10 @@
--- The answers as the paper has them: the number of each refusal, and the values that are given. Every field of every case is read.
-use Rattle.std.specs.Prelude.{ℕ, Float}
+-- The answers as the paper has them: the number of each refusal, and the machine that is sent. Every field of every case is read.
+use Rattle.std.specs.Prelude.{ℕ, Float, Ok, Err, Result}
 use Rattle.planner.specs.Outcome as planner
-use Rattle.planner.specs.Result.{Result, refused, given}
 use Rattle.motion.specs.ForceRows.Machine as machine
-use Rattle.motion.specs.declared.Sample.{Sample}
 use Rattle.motion.specs.declared.Machine.{Machine}
 use Rattle.motion.specs.declared.MotionRefusal.{MotionRefusal}
 use Rattle.motion.specs.declared.MotionRefusal.TheVariants.{Unplanned, ShortTable, PastEnd, MachineRange}
-use Rattle.motion.specs.declared.SampleAnswer.{SampleAnswer}
-use Rattle.motion.specs.declared.SampleAnswer.TheVariants.{Sampled, Refused as NoSample}
-use Rattle.motion.specs.declared.TableAnswer.{TableAnswer}
-use Rattle.motion.specs.declared.TableAnswer.TheVariants.{Filled, Refused as NoTable}
 
 -- Document 01's table, column "No."; 13 is among the planner's.
 abbrev pub number : MotionRefusal → ℕ
@@ -23,10 +17,7 @@ number MachineRange = 10
 abbrev pub machine_of : Machine → machine.Machine Float
 machine_of m = record { m1 = m.m1; m2 = m.m2; k1 = m.k1; k2 = m.k2; k12 = m.k12; c = m.c }
 
-abbrev pub sample_outcome : SampleAnswer → Result ℕ Sample
-sample_outcome (Sampled x) = given x
-sample_outcome (NoSample x) = refused (number x)
-
-abbrev pub table_outcome : TableAnswer → Result ℕ ℕ
-table_outcome (Filled rows) = given rows
-table_outcome (NoTable x) = refused (number x)
+-- Of any entry: what it gives, or the number of its refusal.
+abbrev pub outcome : {A : Type 0} → Result A MotionRefusal → Result A ℕ
+outcome (Ok x) = Ok x
+outcome (Err x) = Err (number x)

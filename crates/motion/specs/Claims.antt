@@ -1,8 +1,7 @@
 -- What the promises of the entries come to, over any answers that meet them: one answer (`one_motion_answer`); when a call with an accepted
 -- move is refused (`accepted_refusals`); that a refusal writes nothing (`untouched`); the order of each entry's checks (`motion_order`);
 -- and that the third order does not read S (`snap_unread_motion`).
-use Rattle.std.specs.Prelude.{false, List, [], ◌∷◌, ◌⊎◌, ◌↔◌, ◌≡◌, ℕ, ◌+◌, ◌≤◌, ◌<◌, Float, ℤ, length}
-use Rattle.planner.specs.Result.{Result, refused}
+use Rattle.std.specs.Prelude.{false, List, [], ◌∷◌, ◌⊎◌, ◌↔◌, ◌≡◌, ℕ, ◌+◌, ◌≤◌, ◌<◌, Float, ℤ, length, Result, Err}
 use Rattle.planner.specs.Order.{InOrder}
 use Rattle.planner.specs.Outcome.{samples_of}
 use Rattle.planner.specs.Claims.{Accepted}
@@ -11,10 +10,9 @@ use Rattle.planner.specs.declared.Move.{Move}
 use Rattle.motion.specs.Sampling.{Motion, fourth_order, third_order, sample_checks, Samples}
 use Rattle.motion.specs.ForceRows.Machine.{Machine, machine_as_read, machine_in_range}
 use Rattle.motion.specs.Tables.{machine_check, table_checks, FillsPositions, FillsReference, FillsForce}
-use Rattle.motion.specs.Answer.{sample_outcome, table_outcome}
+use Rattle.motion.specs.Answer.{outcome}
 use Rattle.motion.specs.declared.Sample.{Sample}
-use Rattle.motion.specs.declared.SampleAnswer.{SampleAnswer}
-use Rattle.motion.specs.declared.TableAnswer.{TableAnswer}
+use Rattle.motion.specs.declared.MotionRefusal.{MotionRefusal}
 
 -- What a table's entry promises of the table at entry, the outcome, and the table at exit: one of the three promises below.
 abbrev pub TablePromise : Type 0 → Type 1
@@ -23,13 +21,13 @@ TablePromise A = (old : List A) (o : Result ℕ ℕ) (new : List A) → Type 0
 -- Demand 1: each promise leaves one answer, and one table at exit.
 abbrev pub OneFilling : {A : Type 0} → TablePromise A → Type 0
 OneFilling {A} Promise =
-    (old new new' : List A) (x y : TableAnswer)
-    → Promise old (table_outcome x) new
-    → Promise old (table_outcome y) new'
+    (old new new' : List A) (x y : Result ℕ MotionRefusal)
+    → Promise old (outcome x) new
+    → Promise old (outcome y) new'
     → (x ≡ y) × (new ≡ new')
 
 pub record OneAnswer (x : Motion) : Type 0 where
-  pub sample : (k : ℕ) (y z : SampleAnswer) → Samples x k (sample_outcome y) → Samples x k (sample_outcome z) → y ≡ z
+  pub sample : (k : ℕ) (y z : Result Sample MotionRefusal) → Samples x k (outcome y) → Samples x k (outcome z) → y ≡ z
   pub positions : OneFilling (FillsPositions x)
   pub reference : OneFilling (FillsReference x)
 
@@ -42,8 +40,8 @@ pub data Only {R : Type 0} (refusal : R) (Where : Type 0) : R → Type 0 where
   only : Where → Only refusal Where refusal
 
 -- Refused with a number exactly where there is this reason for it, and with no other.
-abbrev pub RefusedBy : {R A : Type 0} → Result R A → (Reason : R → Type 0) → Type 0
-RefusedBy {R} o Reason = (n : R) → (o ≡ refused n) ↔ Reason n
+abbrev pub RefusedBy : {R A : Type 0} → Result A R → (Reason : R → Type 0) → Type 0
+RefusedBy {R} o Reason = (n : R) → (o ≡ Err n) ↔ Reason n
 
 -- The reasons of a table with so many places: 8 for fewer than there are rows, and for forces else 10 for the machine.
 abbrev pub TableReason : (rows places : ℕ) → ℕ → Type 0
@@ -58,7 +56,7 @@ TableRefusals {A} Promise Reason = (old new : List A) (o : Result ℕ ℕ) → P
 
 -- Demand 2: "A call with an accepted move may still be refused, but only for the rest of what it sends."
 pub record AcceptedRefusals (x : Motion) : Type 0 where
-  pub sample : (k : ℕ) (o : Result ℕ Sample) → Samples x k o → RefusedBy o (Only 9 (x.samples < k))
+  pub sample : (k : ℕ) (o : Result Sample ℕ) → Samples x k o → RefusedBy o (Only 9 (x.samples < k))
   pub positions : TableRefusals (FillsPositions x) (TableReason (x.samples + 1))
   pub reference : TableRefusals (FillsReference x) (TableReason (x.samples + 2))
 
@@ -69,7 +67,7 @@ pub record AcceptedRefusalsClaim : Type 0 where
 
 -- Demand 1: "A refusal writes no place of any lent table": the table at exit is the table at entry.
 abbrev pub Untouched : {A : Type 0} → TablePromise A → Type 0
-Untouched {A} Promise = (n : ℕ) (old new : List A) → Promise old (refused n) new → new ≡ old
+Untouched {A} Promise = (n : ℕ) (old new : List A) → Promise old (Err n) new → new ≡ old
 
 pub record UntouchedClaim : Type 0 where
   pub positions : (x : Motion) → Untouched (FillsPositions x)
@@ -90,13 +88,13 @@ pub record OrderClaim (m : Move) : Type 0 where
 -- Document 02, 3, "S is not read, so refusal 6 is never given there": what the entries promise of a move in the third order they promise of
 -- it with every S, whichever it is.
 pub record SnapUnreadMotionClaim (m : Move) : Type 0 where
-  pub sample : (S₀ k : ℕ) (o : Result ℕ Sample) → Samples (third_order m) k o → Samples (third_order (with_snap S₀ m)) k o
+  pub sample : (S₀ k : ℕ) (o : Result Sample ℕ) → Samples (third_order m) k o → Samples (third_order (with_snap S₀ m)) k o
   pub positions :
       (S₀ : ℕ) (old new : List ℤ) (o : Result ℕ ℕ)
       → FillsPositions (third_order m) old o new → FillsPositions (third_order (with_snap S₀ m)) old o new
   pub reference :
       (S₀ : ℕ) (old new : List ℤ) (o : Result ℕ ℕ)
       → FillsReference (third_order m) old o new → FillsReference (third_order (with_snap S₀ m)) old o new
-  pub sample_never_six : (k : ℕ) → Samples (third_order m) k (refused 6) → ⊥
-  pub positions_never_six : (old new : List ℤ) → FillsPositions (third_order m) old (refused 6) new → ⊥
-  pub reference_never_six : (old new : List ℤ) → FillsReference (third_order m) old (refused 6) new → ⊥
+  pub sample_never_six : (k : ℕ) → Samples (third_order m) k (Err 6) → ⊥
+  pub positions_never_six : (old new : List ℤ) → FillsPositions (third_order m) old (Err 6) new → ⊥
+  pub reference_never_six : (old new : List ℤ) → FillsReference (third_order m) old (Err 6) new → ⊥

@@ -1,9 +1,8 @@
 -- Document 01, "What demand 3 says": its lines, of any function `at` that gives the values of each sample k from 0 to N, with the product P
 -- and E, the exact profile times P, all plain; then that what the entries give for an accepted move keeps them, in either order.
-use Rattle.std.specs.Prelude.{List, ◌≡◌, ℕ, ◌+◌, ◌≤◌, ◌<◌, ℤ, pos, nat_abs, ◌+ℤ◌, ◌-ℤ◌, ◌*ℤ◌, length, get_or, ◌≤ℤ◌, ◌<ℤ◌}
+use Rattle.std.specs.Prelude.{List, ◌≡◌, ℕ, ◌+◌, ◌≤◌, ◌<◌, ℤ, pos, nat_abs, ◌+ℤ◌, ◌-ℤ◌, ◌*ℤ◌, length, get_or, ◌≤ℤ◌, ◌<ℤ◌, Result, Ok}
 use Rattle.planner.specs.Quantities.{units_per_count, along}
 use Rattle.planner.specs.Intervals.{Intervals, p, q, r, s, N, P}
-use Rattle.planner.specs.Result.{Result, given}
 use Rattle.planner.specs.Outcome.{distance_of, intervals_of, samples_of}
 use Rattle.planner.specs.Claims.{Accepted}
 use Rattle.planner.specs.Third.{ThirdIntervals, N₃, P₃, third_intervals_of, third_samples_of}
@@ -64,22 +63,22 @@ module _ (m : Move) (N P : ℕ) (E : ℕ → ℤ) (at : ℕ → Sample) where
 
 -- What the two orders share, for the N, P and E of a motion x of the move: `sample` is what the one-sample entry gives at each k, and
 -- `table` the position table.
-pub record Demand3Of (m : Move) (x : Motion) (sample : ℕ → Result ℕ Sample) (table : List ℤ) : Type 0 where
+pub record Demand3Of (m : Move) (x : Motion) (sample : ℕ → Result Sample ℕ) (table : List ℤ) : Type 0 where
   -- The values that the entry gives for each k from 0 to N.
   pub at : ℕ → Sample
-  pub answered : (k : ℕ) → k ≤ x.samples → sample k ≡ given (at k)
+  pub answered : (k : ℕ) → k ≤ x.samples → sample k ≡ Ok (at k)
   -- The table has places 0 to N, and its place k is the entry's position at k.
   pub table_places : x.samples < length table
   pub table_position : (k : ℕ) → k ≤ x.samples → get_or table k (pos 0) ≡ (at k).position
   pub kept : Kept m x.samples x.product x.exact at
 
 -- Demand 3: the fourth order adds the lines on the snap.
-pub record Demand3 (m : Move) (sample : ℕ → Result ℕ Sample) (table : List ℤ) : Type 0 where
+pub record Demand3 (m : Move) (sample : ℕ → Result Sample ℕ) (table : List ℤ) : Type 0 where
   pub shared : Demand3Of m (fourth_order m) sample table
   pub kept_snap : KeptSnap m (samples_of m) shared.at
 
 -- The third order (document 02, 3) has none. Its jerk, at sample 0 too, is "as its stretches say", and its snap "is given as 0".
-pub record ThirdDemand3 (m : Move) (sample : ℕ → Result ℕ Sample) (table : List ℤ) : Type 0 where
+pub record ThirdDemand3 (m : Move) (sample : ℕ → Result Sample ℕ) (table : List ℤ) : Type 0 where
   pub shared : Demand3Of m (third_order m) sample table
   pub jerk_switched : (k : ℕ) → k ≤ third_samples_of m → (shared.at k).jerk ≡ (third_values_of m k).jerk
   pub snap_none : (k : ℕ) → k ≤ third_samples_of m → (shared.at k).snap ≡ pos 0
@@ -87,10 +86,10 @@ pub record ThirdDemand3 (m : Move) (sample : ℕ → Result ℕ Sample) (table :
 -- For every accepted move: every function of k that meets the one-sample entry's promise at each k from 0 to N, and every table of at
 -- least N+1 places that meets the position table's promise.
 abbrev pub Demand3For :
-    (Accepts : Move → Type 0) (order : Move → Motion) (Claim : Move → (ℕ → Result ℕ Sample) → List ℤ → Type 0) → Type 0
+    (Accepts : Move → Type 0) (order : Move → Motion) (Claim : Move → (ℕ → Result Sample ℕ) → List ℤ → Type 0) → Type 0
 Demand3For Accepts order Claim =
     (m : Move) → Accepts m
-    → (sample : ℕ → Result ℕ Sample)
+    → (sample : ℕ → Result Sample ℕ)
     → ((k : ℕ) → k ≤ (order m).samples → Samples (order m) k (sample k))
     → (old new : List ℤ) (o : Result ℕ ℕ)
     → (order m).samples + 1 ≤ length old

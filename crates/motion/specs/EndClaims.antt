@@ -1,8 +1,7 @@
 -- The last sample of a move, in either order or as an axis of a set: its remainder (`end_remainder`); and document 02, 7: its count
 -- (`end_count`), and the next move that starts there (`hand_over`).
-use Rattle.std.specs.Prelude.{List, ◌≡◌, ℕ, ◌<◌, ◌^◌, ℤ, pos, neg_ℤ, nat_abs, ◌+ℤ◌, length, get_or}
+use Rattle.std.specs.Prelude.{List, ◌≡◌, ℕ, ◌<◌, ◌^◌, ℤ, pos, neg_ℤ, nat_abs, ◌+ℤ◌, length, get_or, Ok}
 use Rattle.planner.specs.Quantities.{along}
-use Rattle.planner.specs.Result.{given}
 use Rattle.planner.specs.Outcome.{samples_of, Plans}
 use Rattle.planner.specs.Claims.{InSpan}
 use Rattle.planner.specs.Third.{third_samples_of, PlansThird}
@@ -19,15 +18,15 @@ use Rattle.motion.specs.declared.Sample.{Sample}
 -- The last sample of a move, with the shortfall of its plan.
 pub data EndsAt : Move → (shortfall : ℕ) → (last : Sample) → Type 0 where
   fourth_ends :
-      (m : Move) (plan : Plan) → Plans m (given plan)
-      → (last : Sample) → Samples (fourth_order m) (samples_of m) (given last) → EndsAt m plan.shortfall last
+      (m : Move) (plan : Plan) → Plans m (Ok plan)
+      → (last : Sample) → Samples (fourth_order m) (samples_of m) (Ok last) → EndsAt m plan.shortfall last
   third_ends :
-      (m : Move) (plan : ThirdPlan) → PlansThird m (given plan)
-      → (last : Sample) → Samples (third_order m) (third_samples_of m) (given last) → EndsAt m plan.shortfall last
+      (m : Move) (plan : ThirdPlan) → PlansThird m (Ok plan)
+      → (last : Sample) → Samples (third_order m) (third_samples_of m) (Ok last) → EndsAt m plan.shortfall last
   axis_ends :
       (count : ℕ) (moves : List Move) → length moves ≡ most_axes
-      → (N : ℕ) (plans : List Plan) → PlansAxes count moves (given N) plans
-      → (samples : List Sample) → SamplesAxes count moves N (given tt) samples
+      → (N : ℕ) (plans : List Plan) → PlansAxes count moves (Ok N) plans
+      → (samples : List Sample) → SamplesAxes count moves N (Ok tt) samples
       → (i : ℕ) → i < count → EndsAt (axis_at moves i) (get_or plans i rest_plan).shortfall (get_or samples i (rest_sample (pos 0)))
 
 -- No rule asks it, but a bench relies on it: at the last sample the remainder is minus the shortfall for a positive X, and plus the shortfall

@@ -6,8 +6,8 @@ pub mod ClosedForm
 pub mod Steps
 pub mod Planned
 pub mod PlannedAxes
-pub mod Runs
 pub mod SegmentLists
-pub mod OrderRuns
-pub mod Pairs
 pub mod Rows
+pub mod Stretches
+pub mod PairedSums
+pub mod Orders

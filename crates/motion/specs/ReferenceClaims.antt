@@ -1,7 +1,6 @@
 -- Document 02, 4 and 7: what the half sample is for, over what the entries give (`reference_rows`). The rows of the reference table are
 -- held against the values of the samples.
-use Rattle.std.specs.Prelude.{List, ◌≡◌, ℕ, ◌+◌, ◌-◌, ◌≤◌, ◌<◌, ℤ, pos, ◌-ℤ◌, ◌*ℤ◌, length, get_or, ◌≤ℤ◌, ◌<ℤ◌}
-use Rattle.planner.specs.Result.{given}
+use Rattle.std.specs.Prelude.{List, ◌≡◌, ℕ, ◌+◌, ◌-◌, ◌≤◌, ◌<◌, ℤ, pos, ◌-ℤ◌, ◌*ℤ◌, length, get_or, ◌≤ℤ◌, ◌<ℤ◌, Ok}
 use Rattle.planner.specs.declared.Move.{Move}
 use Rattle.motion.specs.Sampling.{units_of, Motion, fourth_order, third_order, Samples}
 use Rattle.motion.specs.Tables.{FillsReference}
@@ -24,8 +23,8 @@ module _ (X start : ℤ) (N : ℕ) (at : ℕ → Sample) (table : List ℤ) wher
 -- Wherever the one-sample entry gives values for each k from 0 to N, and the reference table's entry fills its table.
 abbrev pub ReferenceOf : Move → Motion → Type 0
 ReferenceOf m x =
-    (at : ℕ → Sample) → ((k : ℕ) → k ≤ x.samples → Samples x k (given (at k)))
-    → (old new : List ℤ) (rows : ℕ) → FillsReference x old (given rows) new
+    (at : ℕ → Sample) → ((k : ℕ) → k ≤ x.samples → Samples x k (Ok (at k)))
+    → (old new : List ℤ) (rows : ℕ) → FillsReference x old (Ok rows) new
     → ReferenceRows m.displacement m.start x.samples at new
 
 pub record ReferenceClaim (m : Move) : Type 0 where

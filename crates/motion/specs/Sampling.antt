@@ -1,9 +1,9 @@
 -- Document 01, "The profile": the five values of a sample, and what the one-sample entry gives; document 02, 2: the remainder; 3: the
 -- values in the third order; and 7: the start.
-use Rattle.std.specs.Prelude.{List, [], ◌∷◌, ◌++◌, ◌≡◌, ℕ, ◌*◌, ◌≤◌, ◌<◌, ltb, ℤ, pos, nat_abs, ◌+ℤ◌, ◌*ℤ◌}
+use Rattle.std.specs.Prelude.{List, [], ◌∷◌, ◌++◌, ◌≡◌, ℕ, ◌*◌, ◌≤◌, ◌<◌, ltb, ℤ, pos, nat_abs, ◌+ℤ◌, ◌*ℤ◌, Result, Ok}
 use Rattle.planner.specs.Quantities.{units_per_count, along}
 use Rattle.planner.specs.Intervals.{Intervals, p, q, r, s, P, D}
-use Rattle.planner.specs.Result.{Result, given, Check, check, first_refusal}
+use Rattle.planner.specs.Refusals.{Check, check, first_refusal}
 use Rattle.planner.specs.Outcome.{distance_of, intervals_of, samples_of, checks}
 use Rattle.planner.specs.Third.{ThirdIntervals, P₃, jerk_size, third_intervals_of, third_samples_of, third_checks}
 use Rattle.planner.specs.declared.Move.{Move}
@@ -129,10 +129,10 @@ module _ (x : Motion) (k : ℕ) where
   abbrev pub sample_checks : List (Check ℕ)
   sample_checks = x.plan_checks ++ (check 9 (ltb x.samples k) ∷ [])
 
-  unfoldable pub sample_with : Rounding (x.values k).position → Result ℕ Sample
-  sample_with r = first_refusal sample_checks (given (sample_of x.start (x.values k) r))
+  unfoldable pub sample_with : Rounding (x.values k).position → Result Sample ℕ
+  sample_with r = first_refusal sample_checks (Ok (sample_of x.start (x.values k) r))
 
   -- What the one-sample entry promises of the outcome of its answer.
-  pub record Samples (o : Result ℕ Sample) : Type 0 where
+  pub record Samples (o : Result Sample ℕ) : Type 0 where
     pub rounding : Rounding (x.values k).position
     pub outcome_is : o ≡ sample_with rounding

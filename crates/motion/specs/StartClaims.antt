@@ -1,7 +1,6 @@
 -- Document 02, 7: what the start comes to: what a sample and a row gain by it (`start_gained`), how a sample is rounded
 -- (`rounded_from_start`), that demand 3 from 0 is as it was (`from_zero`), and that force rows do not depend on it (`one_force_table`).
-use Rattle.std.specs.Prelude.{List, map, ◌≡◌, ℕ, ◌<◌, Float, ℤ, pos, ◌+ℤ◌, ◌-ℤ◌, ◌*ℤ◌, length, get_or}
-use Rattle.planner.specs.Result.{given}
+use Rattle.std.specs.Prelude.{List, map, ◌≡◌, ℕ, ◌<◌, Float, ℤ, pos, ◌+ℤ◌, ◌-ℤ◌, ◌*ℤ◌, length, get_or, Ok}
 use Rattle.planner.specs.Axes.{most_axes}
 use Rattle.planner.specs.AxesClaims.{Resting, axis_at}
 use Rattle.planner.specs.StartClaims.{from_zero}
@@ -30,14 +29,14 @@ gained start zero =
 -- ".. and every reference row twice G times the start". What the entries give of a move in one order, beside what they give of it from 0.
 pub record Gained (order : Move → Motion) (m : Move) : Type 0 where
   pub sample :
-      (k : ℕ) (s zero : Sample) → Samples (order m) k (given s) → Samples (order (from_zero m)) k (given zero) → s ≡ gained m.start zero
+      (k : ℕ) (s zero : Sample) → Samples (order m) k (Ok s) → Samples (order (from_zero m)) k (Ok zero) → s ≡ gained m.start zero
   pub positions :
       (old old' new new' : List ℤ) (n n' : ℕ)
-      → FillsPositions (order m) old (given n) new → FillsPositions (order (from_zero m)) old' (given n') new'
+      → FillsPositions (order m) old (Ok n) new → FillsPositions (order (from_zero m)) old' (Ok n') new'
       → (k : ℕ) → k < n → get_or new k (pos 0) ≡ units_of m.start +ℤ get_or new' k (pos 0)
   pub reference :
       (old old' new new' : List ℤ) (n n' : ℕ)
-      → FillsReference (order m) old (given n) new → FillsReference (order (from_zero m)) old' (given n') new'
+      → FillsReference (order m) old (Ok n) new → FillsReference (order (from_zero m)) old' (Ok n') new'
       → (k : ℕ) → k < n → get_or new k (pos 0) ≡ pos 2 *ℤ units_of m.start +ℤ get_or new' k (pos 0)
 
 -- In both orders, and of each axis of a set beside the set with all starts 0.
@@ -47,17 +46,17 @@ pub record GainedClaim : Type 0 where
   pub axes :
       (count : ℕ) (moves : List Move) → length moves ≡ most_axes
       → (k : ℕ) (samples zeros : List Sample)
-      → SamplesAxes count moves k (given tt) samples → SamplesAxes count (map from_zero moves) k (given tt) zeros
+      → SamplesAxes count moves k (Ok tt) samples → SamplesAxes count (map from_zero moves) k (Ok tt) zeros
       → (i : ℕ) → i < count
       → get_or samples i (rest_sample (pos 0)) ≡ gained (axis_at moves i).start (get_or zeros i (rest_sample (pos 0)))
 
 -- What the one-sample entries give of a move at sample k: in the fourth order, in the third, and as an axis of a set.
 pub data SampledAt (k : ℕ) : Move → Sample → Type 0 where
-  in_fourth : (m : Move) (s : Sample) → Samples (fourth_order m) k (given s) → SampledAt k m s
-  in_third : (m : Move) (s : Sample) → Samples (third_order m) k (given s) → SampledAt k m s
+  in_fourth : (m : Move) (s : Sample) → Samples (fourth_order m) k (Ok s) → SampledAt k m s
+  in_third : (m : Move) (s : Sample) → Samples (third_order m) k (Ok s) → SampledAt k m s
   in_set :
       (count : ℕ) (moves : List Move) → length moves ≡ most_axes
-      → (samples : List Sample) → SamplesAxes count moves k (given tt) samples
+      → (samples : List Sample) → SamplesAxes count moves k (Ok tt) samples
       → (i : ℕ) → i < count → SampledAt k (axis_at moves i) (get_or samples i (rest_sample (pos 0)))
 
 -- "rounding is of the distance from it, halves away from it"; and the remainder is "position minus G times the count" as before.
@@ -87,6 +86,6 @@ abbrev pub OneForceTableClaim : Type 0
 OneForceTableClaim =
     (m n : Move) → from_zero m ≡ from_zero n
     → (machine : Machine Float) (old new new' : List Float) (rows rows' : ℕ)
-    → FillsForce m machine old (given rows) new
-    → FillsForce n machine old (given rows') new'
+    → FillsForce m machine old (Ok rows) new
+    → FillsForce n machine old (Ok rows') new'
     → (rows ≡ rows') × (new ≡ new')

@@ -1,6 +1,6 @@
 -- Document 01, "The profile" and "Force rows", and document 02, 4 and 7: the tables of positions, of reference rows and of force rows.
-use Rattle.std.specs.Prelude.{not, List, [], ◌∷◌, ◌++◌, ◌≡◌, ℕ, zero, suc, ◌+◌, min, ltb, ℤ, ◌+ℤ◌, Float, length, drop}
-use Rattle.planner.specs.Result.{Result, refused, given, Check, check, first_refusal}
+use Rattle.std.specs.Prelude.{not, List, [], ◌∷◌, ◌++◌, ◌≡◌, ℕ, zero, suc, ◌+◌, min, ltb, ℤ, ◌+ℤ◌, Float, length, drop, Result, Ok, Err}
+use Rattle.planner.specs.Refusals.{Check, check, first_refusal}
 use Rattle.planner.specs.Outcome.{samples_of}
 use Rattle.planner.specs.declared.Move.{Move}
 use Rattle.motion.specs.Sampling.{Values, values_of, position_from, Motion, fourth_order}
@@ -15,8 +15,8 @@ rows_from row k (suc n) = row k ∷ rows_from row (suc k) n
 
 -- The lent table at exit: the rows from place 0 on and every later place as it was; at a refusal, the old table.
 unfoldable pub table_of : {A : Type 0} → Result ℕ ℕ → (rows old : List A) → List A
-table_of (refused number) rows old = old
-table_of (given n) rows old = rows ++ drop (length rows) old
+table_of (Err number) rows old = old
+table_of (Ok n) rows old = rows ++ drop (length rows) old
 
 -- "Position before 0 is 0 and after N is its final value": a position is held outside 0 to N. Before 0 it is what `earlier` gives: no
 -- distance from the start, so "Position before sample 0 is then the start's".
@@ -38,7 +38,7 @@ module _ (x : Motion) where
   table_checks own rows places = x.plan_checks ++ (check 8 (ltb places rows) ∷ own)
 
   unfoldable pub table_result : (own : List (Check ℕ)) (rows places : ℕ) → Result ℕ ℕ
-  table_result own rows places = first_refusal (table_checks own rows places) (given rows)
+  table_result own rows places = first_refusal (table_checks own rows places) (Ok rows)
 
   -- The outcome and the table at exit of an entry that writes so many rows.
   pub record Fills {A : Type 0} (own : List (Check ℕ)) (rows : ℕ) (row : ℕ → A) (old : List A) (o : Result ℕ ℕ) (new : List A) : Type 0 where

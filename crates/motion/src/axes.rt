@@ -1,40 +1,55 @@
-// The answer of a set at a sample, and how many places it fills.
-ghost use Rattle.std.specs.Prelude.{◌≡◌, List, ℕ};
-ghost use Rattle.planner.specs.Axes.{axes_outcome, axes_result};
-ghost use Rattle.planner.specs.Claims.{IsPlanned};
-ghost use Rattle.motion.specs.Axes.{axes_sample_outcome, axes_sample_result};
+// One sample of every axis of a set.
+ghost use Rattle.motion.specs.Axes.{SamplesAxes, axes_sample_outcome, axes_samples};
+ghost use Rattle.motion.specs.Inner.PlannedAxes.{AxisInRange, IsAxisSample};
 
-use crate::{AxesSampleAnswer, MotionRefusal};
-use planner::{AxesAnswer, Move};
+use crate::planned::sample_in;
+use crate::{MotionRefusal, Sample};
+use planner::{AxisRefusal, MOST_AXES, Move, Plan};
 
-// The planner's refusal of the set, or 9 for k past the end.
-pub(crate) fn axes_answer(answer: AxesAnswer, k: u64) -> AxesSampleAnswer
-    ensures { (count : ℕ) (moves : List Move) → axes_outcome answer ≡ axes_result count moves → axes_sample_outcome result ≡ axes_sample_result count moves k }
+// What stands in the places without an axis.
+const NO_SAMPLE: Sample = Sample {
+    snap: 0,
+    jerk: 0,
+    acceleration: 0,
+    velocity: 0,
+    position: 0,
+    count: 0,
+    remainder: 0,
+};
+
+// Of one axis with its plan. At rest it stays at its start.
+fn sample_axis(plan: &Plan, m: &Move, k: u64) -> Sample
+    requires { AxisInRange m.now plan.now k }
+    ensures { IsAxisSample m.now plan.now k result }
 {
-    match answer {
-        AxesAnswer::Planned { samples } => {
-            if samples < k {
-                AxesSampleAnswer::Refused {
-                    place: 0,
-                    refusal: MotionRefusal::PastEnd,
-                }
-            } else {
-                AxesSampleAnswer::Sampled
-            }
-        }
-        AxesAnswer::Refused { place, refusal } => AxesSampleAnswer::Refused {
-            place,
-            refusal: MotionRefusal::Unplanned(refusal),
-        },
+    if m.displacement == 0 {
+        return Sample::at_rest(m);
     }
+    sample_in(plan, m, k)
 }
 
-// All axes of the set have a sample, or none.
-pub(crate) fn sampled_places(answer: AxesSampleAnswer, count: u64) -> usize
-    ensures { (IsPlanned (axes_sample_outcome answer) → result ≡ count) × ((IsPlanned (axes_sample_outcome answer) → ⊥) → result ≡ 0) }
+// The values of the first `count` moves as the axes of a set at sample k, from 0 to the common N. The places after the last axis have zeros.
+// The loop stands here, since the plans would be copied once more for a function of its own.
+pub fn sample_axes(
+    count: u64,
+    moves: [Move; MOST_AXES],
+    k: u64,
+) -> Result<[Sample; MOST_AXES], AxisRefusal<MotionRefusal>>
+    ensures { SamplesAxes count moves k (axes_sample_outcome result) (axes_samples result) }
 {
-    match answer {
-        AxesSampleAnswer::Sampled => count as usize,
-        AxesSampleAnswer::Refused { place, refusal } => 0,
+    let set = planner::plan_axes(count, moves).map_err(|refused| AxisRefusal {
+        place: refused.place,
+        refusal: MotionRefusal::Unplanned(refused.refusal),
+    })?;
+    if set.samples < k {
+        return Err(AxisRefusal {
+            place: 0,
+            refusal: MotionRefusal::PastEnd,
+        });
     }
+    let mut samples = [NO_SAMPLE; MOST_AXES];
+    for (i, m) in moves[..count as usize].iter().enumerate() {
+        samples[i] = sample_axis(&set.plans[i], m, k);
+    }
+    Ok(samples)
 }

@@ -13,53 +13,50 @@ pub(crate) struct Products {
     pub fourth: i64,
 }
 
-fn products_of(k: u64) -> Products
-    requires { k ≤ most_samples }
-    ensures { result ≡ products_over [] k }
-{
-    let first = k as i64;
-    let second = first * (first - 1);
-    let third = second * (first - 2);
-    let fourth = third * (first - 3);
-    Products {
-        first,
-        second,
-        third,
-        fourth,
+impl Products {
+    fn at(k: u64) -> Products
+        requires { k ≤ most_samples }
+        ensures { result ≡ products_over [] k }
+    {
+        let first = k as i64;
+        let second = first * (first - 1);
+        let third = second * (first - 2);
+        let fourth = third * (first - 3);
+        Products {
+            first,
+            second,
+            third,
+            fourth,
+        }
+    }
+
+    fn less(self, late: Products) -> Products
+        requires { DifferenceFits self late }
+        ensures { result ≡ difference_of self late }
+    {
+        let first = self.first - late.first;
+        let second = self.second - late.second;
+        let third = self.third - late.third;
+        let fourth = self.fourth - late.fourth;
+        Products {
+            first,
+            second,
+            third,
+            fourth,
+        }
     }
 }
 
-fn difference(x: Products, y: Products) -> Products
-    requires { DifferenceFits x y }
-    ensures { result ≡ difference_of x y }
-{
-    let first = x.first - y.first;
-    let second = x.second - y.second;
-    let third = x.third - y.third;
-    let fourth = x.fourth - y.fourth;
-    Products {
-        first,
-        second,
-        third,
-        fourth,
-    }
-}
-
-// The sample number of a copy that starts w samples later. Before its start it stays at 0, where every product is 0.
-fn delayed(k: u64, w: u64) -> u64
-    ensures { result ≡ k - w }
-{
-    if k < w { 0 } else { k - w }
-}
-
-// The difference over one width, and over each width more: the value at k less the same value at k−w.
+// The difference over one width, and over each width more: the value at k less the same value at k−w. Before its start the later copy stays
+// at 0, where every product is 0. One function over a slice of widths would call itself, and the library has no recursion. k is a
+// number with its bound in a clause: each of these subtracts from it.
 fn over_one(a: u64, k: u64) -> Products
     requires { k ≤ most_samples }
     ensures { result ≡ products_over (a ∷ []) k }
 {
-    let now = products_of(k);
-    let late = products_of(delayed(k, a));
-    difference(now, late)
+    let now = Products::at(k);
+    let late = Products::at(k.saturating_sub(a));
+    now.less(late)
 }
 
 fn over_two(a: u64, b: u64, k: u64) -> Products
@@ -67,8 +64,8 @@ fn over_two(a: u64, b: u64, k: u64) -> Products
     ensures { result ≡ products_over (b ∷ a ∷ []) k }
 {
     let now = over_one(a, k);
-    let late = over_one(a, delayed(k, b));
-    difference(now, late)
+    let late = over_one(a, k.saturating_sub(b));
+    now.less(late)
 }
 
 pub(crate) fn over_three(a: u64, b: u64, c: u64, k: u64) -> Products
@@ -76,8 +73,8 @@ pub(crate) fn over_three(a: u64, b: u64, c: u64, k: u64) -> Products
     ensures { result ≡ products_over (c ∷ b ∷ a ∷ []) k }
 {
     let now = over_two(a, b, k);
-    let late = over_two(a, b, delayed(k, c));
-    difference(now, late)
+    let late = over_two(a, b, k.saturating_sub(c));
+    now.less(late)
 }
 
 pub(crate) fn over_four(a: u64, b: u64, c: u64, e: u64, k: u64) -> Products
@@ -85,8 +82,8 @@ pub(crate) fn over_four(a: u64, b: u64, c: u64, e: u64, k: u64) -> Products
     ensures { result ≡ products_over (e ∷ c ∷ b ∷ a ∷ []) k }
 {
     let now = over_three(a, b, c, k);
-    let late = over_three(a, b, c, delayed(k, e));
-    difference(now, late)
+    let late = over_three(a, b, c, k.saturating_sub(e));
+    now.less(late)
 }
 
 // A sum of the profile: that of the profile for D = 1, which is the product divided by its factorial, times the signed D.

@@ -5,5 +5,4 @@ pub(crate) mod drive;
 pub(crate) mod feedforward;
 pub(crate) mod machine_range;
 pub(crate) mod rows;
-pub(crate) mod store;
 pub(crate) mod table;

@@ -1,37 +1,70 @@
 // The switched value by the widths of the intervals: the snap, or in the third order the jerk. At any one sample it is found without the
 // list of segments.
-ghost use Rattle.std.specs.Prelude.{[], ◌∷◌, ◌≡◌, ◌≤◌, ◌^◌};
+ghost use Rattle.std.specs.Prelude.{[], ◌≡◌, ◌≤◌, ◌^◌};
 ghost use Rattle.profile.specs.Inner.Widths.{switched_by};
-ghost use Rattle.planner.specs.Outcome.{intervals_in};
-ghost use Rattle.planner.specs.Third.{third_intervals_in};
-ghost use Rattle.motion.specs.Inner.Planned.{widths_of, third_widths_of};
 ghost use Rattle.motion.specs.Inner.SwitchedLevels.{AreLevels};
 ghost use Rattle.motion.specs.Inner.InnerSamples.{SameValue};
 
-use planner::{Plan, ThirdPlan};
+use crate::sums::Stretch;
+use planner::Move;
 
 // The value in the segments with + and in those with −.
 #[derive(Clone, Copy)]
-pub(crate) struct Levels {
+pub struct Levels {
     pub positive: i64,
     pub negative: i64,
 }
 
-// D in the direction of the displacement, and against it.
-pub(crate) fn levels_of(displacement: i64, size: u64) -> Levels
-    requires { size ≤ 2 ^ 60 }
-    ensures { AreLevels displacement size result }
-{
-    let level = size as i64;
-    if displacement < 0 {
-        return Levels {
-            positive: 0 - level,
-            negative: level,
-        };
+impl Levels {
+    // D in the direction of the displacement, and against it.
+    pub(crate) fn of(m: &Move, size: u64) -> Levels
+        requires { size ≤ 2 ^ 60 }
+        ensures { AreLevels m.now.displacement size result }
+    {
+        let level = size as i64;
+        if m.displacement < 0 {
+            return Levels {
+                positive: 0 - level,
+                negative: level,
+            };
+        }
+        Levels {
+            positive: level,
+            negative: 0 - level,
+        }
     }
-    Levels {
-        positive: level,
-        negative: 0 - level,
+
+    // The value at sample k inside intervals of these widths, the outermost first, around one of a samples.
+    pub(crate) fn at(&self, widths: &[u64], a: u64, k: u64) -> i64
+        ensures { result ≡ switched_by a widths.now self.now.positive self.now.negative k }
+    {
+        let mut inner = IntervalSample {
+            positive: self.positive,
+            negative: self.negative,
+            sample: k,
+        };
+        for width in widths {
+            inner = inner.inside(*width);
+        }
+        inner.innermost(a)
+    }
+
+    pub(crate) fn with_plus(&self, samples: u64) -> Stretch
+        ensures { result ≡ record { samples = samples; level = self.now.positive } }
+    {
+        Stretch {
+            samples: samples as usize,
+            level: self.positive,
+        }
+    }
+
+    pub(crate) fn with_minus(&self, samples: u64) -> Stretch
+        ensures { result ≡ record { samples = samples; level = self.now.negative } }
+    {
+        Stretch {
+            samples: samples as usize,
+            level: self.negative,
+        }
     }
 }
 
@@ -43,52 +76,28 @@ struct IntervalSample {
     pub sample: u64,
 }
 
-// The same sample inside the next interval: past its width the inner profile starts anew with the levels exchanged.
-fn inner_sample(outer: IntervalSample, width: u64) -> IntervalSample
-    ensures { SameValue width outer.positive outer.negative outer.sample result.positive result.negative result.sample }
-{
-    if outer.sample < width {
-        return outer;
+impl IntervalSample {
+    // The same sample inside the next interval: past its width the inner profile starts anew with the levels exchanged.
+    fn inside(&self, width: u64) -> IntervalSample
+        ensures { SameValue width self.now.positive self.now.negative self.now.sample result.positive result.negative result.sample }
+    {
+        if self.sample < width {
+            return *self;
+        }
+        IntervalSample {
+            positive: self.negative,
+            negative: self.positive,
+            sample: self.sample - width,
+        }
     }
-    IntervalSample {
-        positive: outer.negative,
-        negative: outer.positive,
-        sample: outer.sample - width,
+
+    // The value around the innermost interval, of a samples.
+    fn innermost(&self, a: u64) -> i64
+        ensures { result ≡ switched_by a [] self.now.positive self.now.negative self.now.sample }
+    {
+        if self.sample < a {
+            return self.positive;
+        }
+        0
     }
-}
-
-// The value inside the two intervals c and b around one of a samples; in the third order inside e and c around b.
-fn value_inside(outer: IntervalSample, c: u64, b: u64, a: u64) -> i64
-    ensures { result ≡ switched_by a (c ∷ b ∷ []) outer.positive outer.negative outer.sample }
-{
-    let in_c = inner_sample(outer, c);
-    let in_b = inner_sample(in_c, b);
-    if in_b.sample < a {
-        return in_b.positive;
-    }
-    0
-}
-
-// The snap at sample k, from the outermost interval in.
-pub(crate) fn snap_at(plan: Plan, levels: Levels, k: u64) -> i64
-    ensures { result ≡ switched_by plan.a (widths_of (intervals_in plan)) levels.positive levels.negative k }
-{
-    let whole = IntervalSample {
-        positive: levels.positive,
-        negative: levels.negative,
-        sample: k,
-    };
-    value_inside(inner_sample(whole, plan.e), plan.c, plan.b, plan.a)
-}
-
-// The jerk at sample k of a third-order plan, likewise.
-pub(crate) fn jerk_at(plan: ThirdPlan, levels: Levels, k: u64) -> i64
-    ensures { result ≡ switched_by plan.b (third_widths_of (third_intervals_in plan)) levels.positive levels.negative k }
-{
-    let whole = IntervalSample {
-        positive: levels.positive,
-        negative: levels.negative,
-        sample: k,
-    };
-    value_inside(whole, plan.e, plan.c, plan.b)
 }

@@ -7,7 +7,7 @@ use Prim.Native.Nat.{ℕ, ◌<◌}
 use native.Mathlib.Nat.{le_trans, le_of_eq}
 use native.Mathlib.Omega.{arith}
 use lib.ListN.{take}
-use Rattle.planner.specs.Result.{Result, refused, given}
+use Rattle.std.specs.Prelude.{Result, Ok, Err}
 use Rattle.planner.specs.Claims.{IsPlanned}
 use Rattle.planner.specs.Axes.{common_samples, axes_result, PlansAxes}
 use Rattle.planner.specs.declared.Plan.{Plan}
@@ -29,19 +29,19 @@ use Rattle.nitswolan.specs.declared.axes.AxesSampleResult.{AxesSampleResult}
 
 -- a struct with refusal 0 holds a duration, and the plans as they were given
 record PlannedSet (axes : Axes) (r : AxesPlanResult) : Type 0 where
-  promised : PlansAxes axes.count axes.moves (given r.samples) r.plans
-  fields_are : r ≡ axes_plan_fields (given r.samples, r.plans)
+  promised : PlansAxes axes.count axes.moves (Ok r.samples) r.plans
+  fields_are : r ≡ axes_plan_fields (Ok r.samples, r.plans)
 
 planned_set :
-    {axes : Axes} (o : Result (ℕ × ℕ) ℕ) (plans : List Plan) → PlansAxes axes.count axes.moves o plans
+    {axes : Axes} (o : Result ℕ (ℕ × ℕ)) (plans : List Plan) → PlansAxes axes.count axes.moves o plans
     → (axes_plan_fields (o, plans)).refusal ≡ 0 → PlannedSet axes (axes_plan_fields (o, plans))
-planned_set {axes} (refused x) plans h q =
+planned_set {axes} (Err x) plans h q =
     absurd (omega (arith, q, refused_from_one axes.count axes.moves x (sym h.outcome_is)))
-planned_set (given n) plans h q = record { promised = h; fields_are = refl }
+planned_set (Ok n) plans h q = record { promised = h; fields_are = refl }
 
-not_refused : (o : Result (ℕ × ℕ) ℕ) (plans : List Plan) → IsPlanned o → (axes_plan_fields (o, plans)).refusal ≡ 0
-not_refused (refused x) plans p = absurd p
-not_refused (given n) plans p = refl
+not_refused : (o : Result ℕ (ℕ × ℕ)) (plans : List Plan) → IsPlanned o → (axes_plan_fields (o, plans)).refusal ≡ 0
+not_refused (Err x) plans p = absurd p
+not_refused (Ok n) plans p = refl
 
 module _ {axes : Axes} {r : AxesPlanResult} (a : Answers axes_plan_fields (PlansSet axes) r) where
   refusal_is : r.refusal ≡ (axes_plan_fields a.outcome).refusal
@@ -53,13 +53,13 @@ module _ {axes : Axes} {r : AxesPlanResult} (a : Answers axes_plan_fields (Plans
 
 -- a refusal in the struct is the outcome's
 struct_refused :
-    (o : Result (ℕ × ℕ) ℕ) (plans : List Plan) (n p : ℕ) → 0 < n
-    → (((axes_plan_fields (o, plans)).refusal ≡ n) × ((axes_plan_fields (o, plans)).place ≡ p)) ↔ (o ≡ refused (n, p))
-struct_refused (refused x) plans n p l = (
-  λ q. ap refused (λ i. (q.0 i, q.1 i)),
+    (o : Result ℕ (ℕ × ℕ)) (plans : List Plan) (n p : ℕ) → 0 < n
+    → (((axes_plan_fields (o, plans)).refusal ≡ n) × ((axes_plan_fields (o, plans)).place ≡ p)) ↔ (o ≡ Err (n, p))
+struct_refused (Err x) plans n p l = (
+  λ q. ap Err (λ i. (q.0 i, q.1 i)),
   λ q. (ap (λ (x : ℕ × ℕ). x.0) (same_refused q), ap (λ (x : ℕ × ℕ). x.1) (same_refused q)),
 )
-struct_refused (given m) plans n p l = (λ q. absurd (omega (arith, l, q.0)), λ q. absurd (refused_or_given (n, p) m (sym q)))
+struct_refused (Ok m) plans n p l = (λ q. absurd (omega (arith, l, q.0)), λ q. absurd (refused_or_given (n, p) m (sym q)))
 
 pub axes_refused_claim : (axes : Axes) → CallerAxesRefusedClaim axes
 axes_refused_claim axes sent r a n p l =
@@ -70,28 +70,28 @@ axes_refused_claim axes sent r a n p l =
 pub axes_accepted_claim : (axes : Axes) → AxesAcceptedClaim axes
 axes_accepted_claim axes sent r a =
     let accepts = axes_acceptance axes.count axes.moves sent in (
-      λ q. (accepts (given r.samples) r.plans (planned a q).promised).0 tt,
+      λ q. (accepts (Ok r.samples) r.plans (planned a q).promised).0 tt,
       λ h. refusal_is a ∙ not_refused a.outcome.0 a.outcome.1 ((accepts a.outcome.0 a.outcome.1 a.promised).1 h),
     )
 
 -- the samples stand in their places whatever the outcome is
-samples_are : (o : Result (ℕ × ℕ) (Unit {0})) (samples : List Sample) → (axes_sample_fields (o, samples)).values ≡ samples
-samples_are (refused x) samples = refl
-samples_are (given x) samples = refl
+samples_are : (o : Result (Unit {0}) (ℕ × ℕ)) (samples : List Sample) → (axes_sample_fields (o, samples)).values ≡ samples
+samples_are (Err x) samples = refl
+samples_are (Ok x) samples = refl
 
 module _ {axes : Axes} {k : ℕ} {r : AxesSampleResult} (a : Answers axes_sample_fields (SamplesSet axes k) r) where
   -- the fields by the rule's own outcome
-  fields_by : {o : Result (ℕ × ℕ) (Unit {0})} → o ≡ axes_sample_result axes.count axes.moves k → r ≡ axes_sample_fields (o, a.outcome.1)
-  fields_by q = a.fields_are ∙ ap (λ (o : Result (ℕ × ℕ) (Unit {0})). axes_sample_fields (o, a.outcome.1)) (a.promised.outcome_is
+  fields_by : {o : Result (Unit {0}) (ℕ × ℕ)} → o ≡ axes_sample_result axes.count axes.moves k → r ≡ axes_sample_fields (o, a.outcome.1)
+  fields_by q = a.fields_are ∙ ap (λ (o : Result (Unit {0}) (ℕ × ℕ)). axes_sample_fields (o, a.outcome.1)) (a.promised.outcome_is
       ∙ sym q)
 
-  own_fields : given tt ≡ axes_sample_result axes.count axes.moves k → r ≡ axes_sample_fields (given tt, r.values)
+  own_fields : Ok tt ≡ axes_sample_result axes.count axes.moves k → r ≡ axes_sample_fields (Ok tt, r.values)
   own_fields q =
       let by_rule = fields_by q in
-      by_rule ∙ ap (λ (l : List Sample). axes_sample_fields (given tt, l)) (sym (ap (λ (x : AxesSampleResult). x.values) by_rule))
+      by_rule ∙ ap (λ (l : List Sample). axes_sample_fields (Ok tt, l)) (sym (ap (λ (x : AxesSampleResult). x.values) by_rule))
 
   sampled_set :
-      given tt ≡ axes_sample_result axes.count axes.moves k → SamplesAxes axes.count axes.moves k (given tt) r.values
+      Ok tt ≡ axes_sample_result axes.count axes.moves k → SamplesAxes axes.count axes.moves k (Ok tt) r.values
   sampled_set q =
       record {
         outcome_is = q;
@@ -114,14 +114,14 @@ axes_sample_refusals axes sent h k r a =
 pub caller_axes : (axes : Axes) → CallerAxesClaim axes
 caller_axes axes sent r a q sample promised =
     let p = (planned a q).promised in
-    let h = (axes_acceptance axes.count axes.moves sent (given r.samples) r.plans p).0 tt in
+    let h = (axes_acceptance axes.count axes.moves sent (Ok r.samples) r.plans p).0 tt in
     let n : r.samples ≡ common_samples (take axes.count axes.moves) = planned_common axes.count axes.moves p in
     let result = p.outcome_is in
     record {
       planned = (planned a q).fields_are;
       sampled = λ k l. own_fields (promised k l) (result_given axes.count axes.moves k result l);
       demand_3 =
-          demand_3_axes axes.count axes.moves sent h (given r.samples) r.plans p (λ k. given tt) (λ k. (sample k).values)
+          demand_3_axes axes.count axes.moves sent h (Ok r.samples) r.plans p (λ k. Ok tt) (λ k. (sample k).values)
           (λ k l.
           let within = le_trans l (le_of_eq (sym n)) in
           sampled_set (promised k within) (result_given axes.count axes.moves k result within));

@@ -6,7 +6,8 @@ use native.Mathlib.Nat.{le_refl, le_of_eq}
 use native.Mathlib.Omega.{arith}
 use lib.IntN.{ℤ, ◌+ℤ◌}
 use lib.ListN.{length}
-use Rattle.planner.specs.Result.{Each, Result, given}
+use Rattle.planner.specs.Refusals.{Each}
+use Rattle.std.specs.Prelude.{Result, Ok}
 use Rattle.planner.specs.declared.Move.{Move}
 use Rattle.planner.proofs.RefusalLaws.{Passes}
 use Rattle.motion.specs.Demand3.{Demand3Of}
@@ -28,7 +29,7 @@ filled_all :
     → Each Passes x.plan_checks
     → x.samples + 1 ≤ length old
     → Answers table_fields (λ o. FillsPositions x old o new) t
-    → t ≡ table_fields (given (x.samples + 1))
+    → t ≡ table_fields (Ok (x.samples + 1))
 unfolding FillsPositions
 filled_all x old new p l f = f.fields_are ∙ ap table_fields (filled_outcome p l tt f.promised)
 
@@ -62,7 +63,7 @@ caller_facts = record { fourth = caller_by fourth; third = caller_by third }
 
 -- The last sample's struct has the count asked for.
 pub last_count :
-    {m : Move} {x : Motion} {n : ℕ} {Demand : (ℕ → Result ℕ Sample) → List ℤ → Type 0}
+    {m : Move} {x : Motion} {n : ℕ} {Demand : (ℕ → Result Sample ℕ) → List ℤ → Type 0}
     {sample : ℕ → SampleResult} {t : TableResult} {table : List ℤ}
     → (f : CallerFacts x.samples n Demand sample t table)
     → Demand3Of m x f.outcome table

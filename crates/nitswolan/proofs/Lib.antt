@@ -1,7 +1,6 @@
 -- The answers in their structs, and that each promise leaves one.
 pub mod StructLaws
 pub mod PlanLaws
-pub mod SampleLaws
 pub mod OneAnswer
 -- What a caller may rely on.
 pub mod CallerTheorems

@@ -2,7 +2,7 @@
 use mathlib.Core.List.{List}
 use mathlib.Core.Path.{◌≡◌, sym, ◌∙◌}
 use Prim.Native.Nat.{ℕ}
-use Rattle.planner.specs.Result.{Check}
+use Rattle.planner.specs.Refusals.{Check}
 use Rattle.planner.specs.Outcome.{Plans}
 use Rattle.planner.specs.Third.{PlansThird}
 use Rattle.planner.specs.declared.Move.{Move}
@@ -66,7 +66,7 @@ pub one_axes_struct : (axes : Axes) → OneAxesStructClaim axes
 one_axes_struct axes = record { plan = λ x y. one_set_plan; sample = λ k x y. one_set_sample }
 
 one_sheet : {text : List ℕ} {x y : SheetResult} → Answers sheet_fields (ReadsSheet text) x → Answers sheet_fields (ReadsSheet text) y → x ≡ y
-one_sheet h l = same_struct h l (one_reading h.promised l.promised)
+one_sheet {text} h l = same_struct h l (one_reading text h.outcome l.outcome h.promised l.promised)
 
 one_struct_of : (x : Motion) → OneStruct x
 unfolding FillsPositions FillsReference

@@ -1,7 +1,7 @@
 -- What a refusal of the C entries means: motion's theorems, for the field `refusal` of a struct.
 use mathlib.Core.Path.{refl, subst}
 use Prim.Native.Nat.{ℕ}
-use Rattle.planner.specs.Result.{Result}
+use Rattle.std.specs.Prelude.{Result}
 use Rattle.motion.specs.Sampling.{Motion}
 use Rattle.motion.specs.Answer.{machine_of}
 use Rattle.motion.specs.Claims.{TablePromise, RefusedBy, AcceptedRefusals, Untouched}

@@ -4,7 +4,7 @@ use mathlib.Core.Logic.{◌↔◌}
 use mathlib.Core.Path.{◌≡◌, refl, sym, ap, ◌∙◌}
 use Prim.Native.Nat.{ℕ, ◌≤◌, ◌<◌}
 use native.Mathlib.Omega.{arith}
-use Rattle.planner.specs.Result.{Result, refused, given}
+use Rattle.std.specs.Prelude.{Result, Ok, Err}
 use Rattle.planner.specs.Claims.{IsPlanned}
 use Rattle.planner.proofs.ResultLaws.{refused_or_given, same_refused}
 use Rattle.motion.specs.Claims.{RefusedBy}
@@ -25,37 +25,37 @@ filled_by fields {o = o} p = record { outcome = o; promised = p; fields_are = re
 
 module _
     {A R : Type 0}
-    (fields : Result ℕ A → R)
+    (fields : Result A ℕ → R)
     (number : R → ℕ)
-    (at-refusal : (n : ℕ) → number (fields (refused n)) ≡ n)
-    (else-zero : (x : A) → number (fields (given x)) ≡ 0)
+    (at-refusal : (n : ℕ) → number (fields (Err n)) ≡ n)
+    (else-zero : (x : A) → number (fields (Ok x)) ≡ 0)
   where
-    outcome_refused : (o : Result ℕ A) (n : ℕ) → 0 < n → (number (fields o) ≡ n) ↔ (o ≡ refused n)
-    outcome_refused (refused i) n l = (
-      λ h. ap refused (sym (at-refusal i) ∙ h),
+    outcome_refused : (o : Result A ℕ) (n : ℕ) → 0 < n → (number (fields o) ≡ n) ↔ (o ≡ Err n)
+    outcome_refused (Err i) n l = (
+      λ h. ap Err (sym (at-refusal i) ∙ h),
       λ h. at-refusal i ∙ same_refused h,
     )
-    outcome_refused (given x) n l = (
+    outcome_refused (Ok x) n l = (
       λ h. absurd (omega (arith, h, else-zero x)),
       λ h. absurd (refused_or_given n x (sym h)),
     )
 
     pub field_refused_by :
-        {Promise : Result ℕ A → Type 0} {Reason : ℕ → Type 0} {r : R}
-        → ((o : Result ℕ A) → Promise o → RefusedBy o Reason)
+        {Promise : Result A ℕ → Type 0} {Reason : ℕ → Type 0} {r : R}
+        → ((o : Result A ℕ) → Promise o → RefusedBy o Reason)
         → Answers fields Promise r
         → FieldRefusedBy (number r) Reason
     field_refused_by by a n l =
         rw a.fields_are (Iff.trans (outcome_refused a.outcome n l) (by a.outcome a.promised n))
 
-    pub refused_outcome : {Promise : Result ℕ A → Type 0} {r : R} (a : Answers fields Promise r) → 0 < number r → a.outcome ≡ refused (number r)
+    pub refused_outcome : {Promise : Result A ℕ → Type 0} {r : R} (a : Answers fields Promise r) → 0 < number r → a.outcome ≡ Err (number r)
     refused_outcome {r} a l = (outcome_refused a.outcome (number r) l).0 (sym (ap number a.fields_are))
 
     -- where no refusal has the number 0, the field is 0 exactly where something is given
-    module _ {Promise : Result ℕ A → Type 0} (from_one : (o : Result ℕ A) → Promise o → (n : ℕ) → o ≡ refused n → 1 ≤ n) where
-      not_refused : (o : Result ℕ A) → Promise o → (number (fields o) ≡ 0) ↔ IsPlanned o
-      not_refused (refused n) h = (λ q. absurd (omega (arith, q, at-refusal n, from_one (refused n) h n refl)), λ p. absurd p)
-      not_refused (given x) h = (λ q. tt, λ p. else-zero x)
+    module _ {Promise : Result A ℕ → Type 0} (from_one : (o : Result A ℕ) → Promise o → (n : ℕ) → o ≡ Err n → 1 ≤ n) where
+      not_refused : (o : Result A ℕ) → Promise o → (number (fields o) ≡ 0) ↔ IsPlanned o
+      not_refused (Err n) h = (λ q. absurd (omega (arith, q, at-refusal n, from_one (Err n) h n refl)), λ p. absurd p)
+      not_refused (Ok x) h = (λ q. tt, λ p. else-zero x)
 
       module _ {r : R} (a : Answers fields Promise r) where
         pub field_zero : (number r ≡ 0) ↔ IsPlanned a.outcome
@@ -64,11 +64,11 @@ module _
         -- and another field is then what it is where something is given
         pub field_given :
             (value : R → ℕ) (n : ℕ)
-            → ((x : A) → Promise (given x) → value (fields (given x)) ≡ n)
+            → ((x : A) → Promise (Ok x) → value (fields (Ok x)) ≡ n)
             → number r ≡ 0
             → value r ≡ n
         field_given value n is q = ap value a.fields_are ∙ go a.outcome a.promised (field_zero.0 q)
           where
-            go : (o : Result ℕ A) → Promise o → IsPlanned o → value (fields o) ≡ n
-            go (refused i) h p = absurd p
-            go (given x) h p = is x h
+            go : (o : Result A ℕ) → Promise o → IsPlanned o → value (fields o) ≡ n
+            go (Err i) h p = absurd p
+            go (Ok x) h p = is x h

@@ -1,6 +1,5 @@
 -- What the promises of the C entries for a set of axes come to for their caller, over any answers that meet them. C sends eight moves.
-use Rattle.std.specs.Prelude.{◌↔◌, ◌≡◌, ℕ, ◌≤◌, ◌<◌, length}
-use Rattle.planner.specs.Result.{given}
+use Rattle.std.specs.Prelude.{◌↔◌, ◌≡◌, ℕ, ◌≤◌, ◌<◌, length, Ok}
 use Rattle.planner.specs.Axes.{most_axes, common_samples, counted}
 use Rattle.planner.specs.AxesClaims.{AcceptedAxes, Reason}
 use Rattle.motion.specs.AxesClaims.{Demand3Axes}
@@ -46,9 +45,9 @@ module _ (axes : Axes) where
   -- A caller that sees no refusal of the plan gets none up to its samples, and demand 3 of every axis: of the plans and values that stand in
   -- the structs, whose refusals and places are 0.
   pub record CallerAxesFacts (plan : AxesPlanResult) (sample : ℕ → AxesSampleResult) : Type 0 where
-    pub planned : plan ≡ axes_plan_fields (given plan.samples, plan.plans)
-    pub sampled : (k : ℕ) → k ≤ plan.samples → sample k ≡ axes_sample_fields (given tt, (sample k).values)
-    pub demand_3 : Demand3Axes axes.count axes.moves (given plan.samples) plan.plans (λ k. given tt) (λ k. (sample k).values)
+    pub planned : plan ≡ axes_plan_fields (Ok plan.samples, plan.plans)
+    pub sampled : (k : ℕ) → k ≤ plan.samples → sample k ≡ axes_sample_fields (Ok tt, (sample k).values)
+    pub demand_3 : Demand3Axes axes.count axes.moves (Ok plan.samples) plan.plans (λ k. Ok tt) (λ k. (sample k).values)
 
   abbrev pub CallerAxesClaim : Type 0
   CallerAxesClaim =

@@ -1,6 +1,5 @@
 -- What the promises of the C entries come to for their caller, over any answers that meet them.
-use Rattle.std.specs.Prelude.{List, ◌↔◌, ◌≡◌, ℕ, ◌+◌, ◌≤◌, ◌<◌, ℤ, length}
-use Rattle.planner.specs.Result.{Result}
+use Rattle.std.specs.Prelude.{List, ◌↔◌, ◌≡◌, ℕ, ◌+◌, ◌≤◌, ◌<◌, ℤ, length, Result}
 use Rattle.planner.specs.Outcome.{samples_of, Plans}
 use Rattle.planner.specs.Claims.{Accepted}
 use Rattle.planner.specs.Third.{PlansThird}
@@ -50,14 +49,14 @@ pub record OneAnswerClaim : Type 0 where
 -- What is at hand where a move of N samples was planned, asked for at each of them, and filled into a table. `samples` is the plan's field,
 -- and Demand is demand 3 of the move.
 pub record CallerFacts
-    (N samples : ℕ) (Demand : (ℕ → Result ℕ Sample) → List ℤ → Type 0)
+    (N samples : ℕ) (Demand : (ℕ → Result Sample ℕ) → List ℤ → Type 0)
     (sample : ℕ → SampleResult) (filled : TableResult) (table : List ℤ) : Type 0 where
   pub samples_are : samples ≡ N
   pub sampled : (k : ℕ) → k ≤ samples → (sample k).refusal ≡ 0
   pub not_refused : filled.refusal ≡ 0
   pub rows_are : filled.rows ≡ samples + 1
   -- The outcomes that fill the structs of the samples.
-  pub outcome : ℕ → Result ℕ Sample
+  pub outcome : ℕ → Result Sample ℕ
   pub filled_by_outcome : (k : ℕ) → k ≤ samples → sample k ≡ sample_fields (outcome k)
   pub demand_3 : Demand outcome table
 
@@ -65,7 +64,7 @@ pub record CallerFacts
 -- plan's struct is R.
 abbrev pub CallerFor :
     {R : Type 0} (refusal samples : R → ℕ) (Promise : Move → R → Type 0) (order : Move → Motion)
-    (Demand : Move → (ℕ → Result ℕ Sample) → List ℤ → Type 0) → Type 0
+    (Demand : Move → (ℕ → Result Sample ℕ) → List ℤ → Type 0) → Type 0
 CallerFor {R} refusal samples Promise order Demand =
     (m : Move) (plan : R)
     → Promise m plan

@@ -1,7 +1,6 @@
 -- The structs of the C interface: how an outcome of the library's entry fills each, field by field.
-use Rattle.std.specs.Prelude.{List, ◌≡◌, ℕ, pos}
+use Rattle.std.specs.Prelude.{List, ◌≡◌, ℕ, pos, Result, Ok, Err, replicate}
 use Rattle.planner.specs.Intervals.{N}
-use Rattle.planner.specs.Result.{Result, refused, given}
 use Rattle.planner.specs.Outcome.{intervals_in}
 use Rattle.planner.specs.Axes.{PlansAxes}
 use Rattle.planner.specs.Third.{third_intervals_in, N₃}
@@ -9,9 +8,9 @@ use Rattle.planner.specs.declared.Plan.{Plan}
 use Rattle.planner.specs.declared.ThirdPlan.{ThirdPlan}
 use Rattle.motion.specs.Axes.{rest_sample, SamplesAxes}
 use Rattle.motion.specs.declared.Sample.{Sample}
-use Rattle.route_sheet.specs.Answer.{sheet_outcome}
-use Rattle.route_sheet.specs.declared.BoundSet.{BoundSet}
-use Rattle.route_sheet.specs.declared.RouteMove.{RouteMove}
+use Rattle.route_sheet.specs.Sheet.{most_sets, most_moves}
+use Rattle.route_sheet.specs.Answer.{number_and_line, zero_set, zero_move}
+use Rattle.route_sheet.specs.declared.SheetRefusal.{SheetRefusal}
 use Rattle.route_sheet.specs.declared.SheetReading.{SheetReading}
 use Rattle.nitswolan.specs.declared.axes.Axes.{Axes}
 use Rattle.nitswolan.specs.declared.axes.AxesPlanResult.{AxesPlanResult}
@@ -29,10 +28,10 @@ pub record Answers {O R : Type 0} (fields : O → R) (Promise : O → Type 0) (r
   pub fields_are : r ≡ fields outcome
 
 -- The refusal is 0 where there is none; at a refusal every other field is 0.
-abbrev pub plan_fields : Result ℕ Plan → PlanResult
-plan_fields (refused number) =
+abbrev pub plan_fields : Result Plan ℕ → PlanResult
+plan_fields (Err number) =
     record { refusal = number; samples = 0; a = 0; b = 0; c = 0; e = 0; snap = 0; shortfall = 0 }
-plan_fields (given x) =
+plan_fields (Ok x) =
     record {
       refusal = 0;
       samples = N (intervals_in x);
@@ -44,9 +43,9 @@ plan_fields (given x) =
       shortfall = x.shortfall;
     }
 
-abbrev pub third_plan_fields : Result ℕ ThirdPlan → ThirdPlanResult
-third_plan_fields (refused number) = record { refusal = number; samples = 0; b = 0; c = 0; e = 0; jerk = 0; shortfall = 0 }
-third_plan_fields (given x) =
+abbrev pub third_plan_fields : Result ThirdPlan ℕ → ThirdPlanResult
+third_plan_fields (Err number) = record { refusal = number; samples = 0; b = 0; c = 0; e = 0; jerk = 0; shortfall = 0 }
+third_plan_fields (Ok x) =
     record {
       refusal = 0;
       samples = N₃ (third_intervals_in x);
@@ -71,36 +70,40 @@ sample_fields_of refusal x =
     }
 
 -- The zeros at a refusal are those of a sample at rest at 0.
-abbrev pub sample_fields : Result ℕ Sample → SampleResult
-sample_fields (refused number) = sample_fields_of number (rest_sample (pos 0))
-sample_fields (given x) = sample_fields_of 0 x
+abbrev pub sample_fields : Result Sample ℕ → SampleResult
+sample_fields (Err number) = sample_fields_of number (rest_sample (pos 0))
+sample_fields (Ok x) = sample_fields_of 0 x
 
 -- What the entries of a set promise of their answer and of the eight places beside it.
-abbrev pub PlansSet : Axes → Result (ℕ × ℕ) ℕ × List Plan → Type 0
+abbrev pub PlansSet : Axes → Result ℕ (ℕ × ℕ) × List Plan → Type 0
 PlansSet x o = PlansAxes x.count x.moves o.0 o.1
 
-abbrev pub SamplesSet : Axes → (k : ℕ) → Result (ℕ × ℕ) (Unit {0}) × List Sample → Type 0
+abbrev pub SamplesSet : Axes → (k : ℕ) → Result (Unit {0}) (ℕ × ℕ) × List Sample → Type 0
 SamplesSet x k o = SamplesAxes x.count x.moves k o.0 o.1
 
 -- The answer of a set, and the eight places beside it. The place of a refused axis stands in `place`.
-abbrev pub axes_plan_fields : Result (ℕ × ℕ) ℕ × List Plan → AxesPlanResult
-axes_plan_fields (refused (number, place), plans) = record { refusal = number; place = place; samples = 0; plans = plans }
-axes_plan_fields (given samples, plans) = record { refusal = 0; place = 0; samples = samples; plans = plans }
+abbrev pub axes_plan_fields : Result ℕ (ℕ × ℕ) × List Plan → AxesPlanResult
+axes_plan_fields (Err (number, place), plans) = record { refusal = number; place = place; samples = 0; plans = plans }
+axes_plan_fields (Ok samples, plans) = record { refusal = 0; place = 0; samples = samples; plans = plans }
 
-abbrev pub axes_sample_fields : Result (ℕ × ℕ) (Unit {0}) × List Sample → AxesSampleResult
-axes_sample_fields (refused (number, place), values) = record { refusal = number; place = place; values = values }
-axes_sample_fields (given x, values) = record { refusal = 0; place = 0; values = values }
+abbrev pub axes_sample_fields : Result (Unit {0}) (ℕ × ℕ) × List Sample → AxesSampleResult
+axes_sample_fields (Err (number, place), values) = record { refusal = number; place = place; values = values }
+axes_sample_fields (Ok x, values) = record { refusal = 0; place = 0; values = values }
 
 abbrev pub table_fields : Result ℕ ℕ → TableResult
-table_fields (refused number) = record { refusal = number; rows = 0 }
-table_fields (given rows) = record { refusal = 0; rows = rows }
+table_fields (Err number) = record { refusal = number; rows = 0 }
+table_fields (Ok rows) = record { refusal = 0; rows = rows }
 
 -- At 11 its line stands in `line`.
-abbrev pub sheet_fields_of : Result (ℕ × ℕ) (ℕ × ℕ) → List BoundSet → List RouteMove → SheetResult
-sheet_fields_of (refused (number, line)) sets moves =
-    record { refusal = number; line = line; set_count = 0; move_count = 0; sets = sets; moves = moves }
-sheet_fields_of (given (setCount, moveCount)) sets moves =
-    record { refusal = 0; line = 0; set_count = setCount; move_count = moveCount; sets = sets; moves = moves }
-
-abbrev pub sheet_fields : SheetReading → SheetResult
-sheet_fields r = sheet_fields_of (sheet_outcome r.answer) r.sets r.moves
+abbrev pub sheet_fields : Result SheetReading SheetRefusal → SheetResult
+sheet_fields (Ok r) =
+    record { refusal = 0; line = 0; set_count = r.set_count; move_count = r.move_count; sets = r.sets; moves = r.moves }
+sheet_fields (Err x) =
+    record {
+      refusal = (number_and_line x).0;
+      line = (number_and_line x).1;
+      set_count = 0;
+      move_count = 0;
+      sets = replicate most_sets zero_set;
+      moves = replicate most_moves zero_move;
+    }

@@ -19,14 +19,8 @@ ghost use Rattle.route_sheet.specs.Report.{Reports};
 ghost use Rattle.nitswolan.specs.Fields.{Answers, plan_fields, sample_fields, sheet_fields, table_fields, third_plan_fields};
 ghost use Rattle.nitswolan.specs.Fields.{PlansSet, SamplesSet, axes_plan_fields, axes_sample_fields};
 
-use crate::axes::{axes_plan_result, axes_sample_result};
-use crate::plan::plan_result;
-use crate::sample::sample_result;
-use crate::sheet::sheet_result;
-use crate::table::table_result;
-use crate::third::third_plan_result;
 pub use axes::{Axes, AxesPlanResult, AxesSampleResult};
-use motion::Machine;
+use motion::{Fourth, Machine, Third};
 pub use plan::PlanResult;
 use planner::Move;
 use route_sheet::REPORT_BYTES;
@@ -36,89 +30,89 @@ pub use table::TableResult;
 pub use third::ThirdPlanResult;
 
 // Plans a move, or names the first refusal that applies.
+#[tactic(auto, using(crate::proofs::PlanLaws::plan_in_range))]
 pub fn nitswolan_plan_move(m: Move) -> PlanResult
     ensures { Answers plan_fields (Plans m) result }
 {
-    plan_result(planner::plan_move(m))
+    PlanResult::of(planner::plan_move(&m))
 }
 
 // Plans the axes of a set that arrive together, or names the refusal.
 pub fn nitswolan_plan_axes(axes: Axes) -> AxesPlanResult
     ensures { Answers axes_plan_fields (PlansSet axes) result }
 {
-    let moves = axes.moves;
-    axes_plan_result(planner::plan_axes(axes.count, moves))
+    planner::plan_axes(axes.count, axes.moves).into()
 }
 
 // The values of a move at sample k, from 0 to N.
 pub fn nitswolan_sample_move(m: Move, k: u64) -> SampleResult
     ensures { Answers sample_fields (Samples (fourth_order m) k) result }
 {
-    sample_result(motion::sample_move(m, k))
+    motion::sample_move::<Fourth>(&m, k).into()
 }
 
 // The values of the axes of a set at sample k, from 0 to the common N.
 pub fn nitswolan_sample_axes(axes: Axes, k: u64) -> AxesSampleResult
     ensures { Answers axes_sample_fields (SamplesSet axes k) result }
 {
-    let moves = axes.moves;
-    axes_sample_result(motion::sample_axes(axes.count, moves, k))
+    motion::sample_axes(axes.count, axes.moves, k).into()
 }
 
 // Fills a table with the positions of a move at samples 0 to N, for the drive to play.
 pub fn nitswolan_fill_positions(m: Move, table: &mut [i64]) -> TableResult
     ensures { Answers table_fields (λ o. FillsPositions (fourth_order m) table.old o table.new) result }
 {
-    table_result(motion::fill_positions(m, table))
+    motion::fill_positions::<Fourth>(&m, table).into()
 }
 
 // Fills a table with the reference rows of a move, 0 to N+1, for the feedback loop, in doubled units.
 pub fn nitswolan_fill_reference(m: Move, table: &mut [i64]) -> TableResult
     ensures { Answers table_fields (λ o. FillsReference (fourth_order m) table.old o table.new) result }
 {
-    table_result(motion::fill_reference(m, table))
+    motion::fill_reference::<Fourth>(&m, table).into()
 }
 
 // Fills a table with the force rows of a move and a machine at rows 0 to N+1, for the drive's feedforward.
 pub fn nitswolan_fill_force(m: Move, machine: Machine, table: &mut [f64]) -> TableResult
     ensures { Answers table_fields (λ o. FillsForce m (machine_of machine) table.old o table.new) result }
 {
-    table_result(motion::fill_force(m, machine, table))
+    motion::fill_force(&m, machine, table).into()
 }
 
 // Plans a move in the third order, for drives without a bound on the snap: the move's own is not read.
+#[tactic(auto, using(crate::proofs::PlanLaws::third_plan_in_range))]
 pub fn nitswolan_plan_third(m: Move) -> ThirdPlanResult
     ensures { Answers third_plan_fields (PlansThird m) result }
 {
-    third_plan_result(planner::plan_third(m))
+    ThirdPlanResult::of(planner::plan_third(&m))
 }
 
 // The values of a move in the third order at sample k, from 0 to N. The snap is 0.
 pub fn nitswolan_sample_third(m: Move, k: u64) -> SampleResult
     ensures { Answers sample_fields (Samples (third_order m) k) result }
 {
-    sample_result(motion::sample_third(m, k))
+    motion::sample_move::<Third>(&m, k).into()
 }
 
 // Fills a table with the positions of a move in the third order at samples 0 to N.
 pub fn nitswolan_fill_positions_third(m: Move, table: &mut [i64]) -> TableResult
     ensures { Answers table_fields (λ o. FillsPositions (third_order m) table.old o table.new) result }
 {
-    table_result(motion::fill_positions_third(m, table))
+    motion::fill_positions::<Third>(&m, table).into()
 }
 
 // Fills a table with the reference rows of a move in the third order, 0 to N+1, in doubled units.
 pub fn nitswolan_fill_reference_third(m: Move, table: &mut [i64]) -> TableResult
     ensures { Answers table_fields (λ o. FillsReference (third_order m) table.old o table.new) result }
 {
-    table_result(motion::fill_reference_third(m, table))
+    motion::fill_reference::<Third>(&m, table).into()
 }
 
 // Reads the text of a sheet, or names its refusal.
 pub fn nitswolan_read_sheet(text: &[u8]) -> SheetResult
     ensures { Answers sheet_fields (ReadsSheet text.now) result }
 {
-    sheet_result(route_sheet::read_sheet(text))
+    route_sheet::read_sheet(text).into()
 }
 
 // Puts what `bottlerun` prints of a sheet's text at the start of `out`, and answers how many bytes that is.

@@ -1,15 +1,14 @@
 // The planner's answer for C.
-ghost use Rattle.std.specs.Prelude.{◌≡◌, ◌≤◌};
-ghost use Rattle.planner.specs.Outcome.{outcome, most_samples};
+ghost use Rattle.std.specs.Prelude.{◌≡◌, IfOk};
+ghost use Rattle.motion.specs.Inner.Planned.{PlanInRange};
+ghost use Rattle.planner.specs.Outcome.{outcome};
 ghost use Rattle.nitswolan.specs.Fields.{plan_fields};
-ghost use Rattle.motion.specs.Inner.Planned.{samples_in};
-ghost use Rattle.nitswolan.specs.Inner.{SamplesFit};
 
-use planner::{Plan, PlanAnswer};
+use planner::{Plan, Refusal};
 
 // A plan: N, the intervals a, b, c and e, the size D of the snap, and the shortfall.
 #[repr(C)]
-#[derive(Clone, Copy)]
+#[derive(Clone, Copy, Debug, Default, PartialEq, Eq, Hash)]
 pub struct PlanResult {
     pub refusal: u64,
     pub samples: u64,
@@ -21,38 +20,27 @@ pub struct PlanResult {
     pub shortfall: u64,
 }
 
-// N, the samples that the move takes.
-fn samples_of(plan: Plan) -> u64
-    requires { samples_in plan ≤ most_samples }
-    ensures { result ≡ samples_in plan }
-{
-    plan.a + plan.b + plan.c + plan.e
-}
-
-pub(crate) fn plan_result(answer: PlanAnswer) -> PlanResult
-    requires { SamplesFit samples_in (outcome answer) }
-    ensures { result ≡ plan_fields (outcome answer) }
-{
-    match answer {
-        PlanAnswer::Planned(plan) => PlanResult {
-            refusal: 0,
-            samples: samples_of(plan),
-            a: plan.a,
-            b: plan.b,
-            c: plan.c,
-            e: plan.e,
-            snap: plan.snap,
-            shortfall: plan.shortfall,
-        },
-        PlanAnswer::Refused(refusal) => PlanResult {
-            refusal: planner::refusal_number(refusal),
-            samples: 0,
-            a: 0,
-            b: 0,
-            c: 0,
-            e: 0,
-            snap: 0,
-            shortfall: 0,
-        },
+// No `From`, since the sum N needs a `requires`.
+impl PlanResult {
+    pub(crate) fn of(answer: Result<Plan, Refusal>) -> PlanResult
+        requires { IfOk answer PlanInRange }
+        ensures { result ≡ plan_fields (outcome answer) }
+    {
+        match answer {
+            Ok(plan) => PlanResult {
+                refusal: 0,
+                samples: plan.a + plan.b + plan.c + plan.e,
+                a: plan.a,
+                b: plan.b,
+                c: plan.c,
+                e: plan.e,
+                snap: plan.snap,
+                shortfall: plan.shortfall,
+            },
+            Err(refusal) => PlanResult {
+                refusal: refusal.number(),
+                ..PlanResult::default()
+            },
+        }
     }
 }

@@ -1,13 +1,13 @@
 // The one-sample entry's answer for C.
 ghost use Rattle.std.specs.Prelude.{◌≡◌};
-ghost use Rattle.motion.specs.Answer.{sample_outcome};
+ghost use Rattle.motion.specs.Answer.{outcome};
 ghost use Rattle.nitswolan.specs.Fields.{sample_fields};
 
-use motion::SampleAnswer;
+use motion::{MotionRefusal, Sample};
 
 // The values at a sample in sub-count units, the position to the nearest count, and the remainder.
 #[repr(C)]
-#[derive(Clone, Copy)]
+#[derive(Clone, Copy, Debug, Default, PartialEq, Eq, Hash)]
 pub struct SampleResult {
     pub refusal: u64,
     pub snap: i64,
@@ -19,29 +19,25 @@ pub struct SampleResult {
     pub remainder: i64,
 }
 
-pub(crate) fn sample_result(answer: SampleAnswer) -> SampleResult
-    ensures { result ≡ sample_fields (sample_outcome answer) }
-{
-    match answer {
-        SampleAnswer::Sampled(sample) => SampleResult {
-            refusal: 0,
-            snap: sample.snap,
-            jerk: sample.jerk,
-            acceleration: sample.acceleration,
-            velocity: sample.velocity,
-            position: sample.position,
-            count: sample.count,
-            remainder: sample.remainder,
-        },
-        SampleAnswer::Refused(refusal) => SampleResult {
-            refusal: motion::refusal_number(refusal),
-            snap: 0,
-            jerk: 0,
-            acceleration: 0,
-            velocity: 0,
-            position: 0,
-            count: 0,
-            remainder: 0,
-        },
+impl From<Result<Sample, MotionRefusal>> for SampleResult {
+    ghost from_gives = { λ answer r. r ≡ sample_fields (outcome answer) };
+
+    fn from(answer: Result<Sample, MotionRefusal>) -> SampleResult {
+        match answer {
+            Ok(sample) => SampleResult {
+                refusal: 0,
+                snap: sample.snap,
+                jerk: sample.jerk,
+                acceleration: sample.acceleration,
+                velocity: sample.velocity,
+                position: sample.position,
+                count: sample.count,
+                remainder: sample.remainder,
+            },
+            Err(refusal) => SampleResult {
+                refusal: refusal.number(),
+                ..SampleResult::default()
+            },
+        }
     }
 }

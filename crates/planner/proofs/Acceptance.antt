@@ -6,7 +6,8 @@ use mathlib.Core.Path.{◌≡◌, refl}
 use Prim.Native.Nat.{ℕ}
 use borrow.Author.Tests.{le-ltb, ltb-false}
 use lib.Dec.{ltb}
-use Rattle.planner.specs.Result.{Each, given, Check, check}
+use Rattle.planner.specs.Refusals.{Each, Check, check}
+use Rattle.std.specs.Prelude.{Ok}
 use Rattle.planner.specs.Outcome.{most_samples, out_of_range, span_check, samples_of, distance_of, intervals_of, plan_of, checks, outcome_of}
 use Rattle.planner.specs.Claims.{Accepted, IsPlanned, AcceptanceClaim}
 use Rattle.planner.specs.Third.{third_intervals_of, third_samples_of, third_plan_of, third_checks, third_outcome_of}
@@ -83,11 +84,11 @@ module _ (m : Move) where
       (ends_pass m h.is_in_range.ends, (le-ltb most_samples (third_samples_of m) h.short_enough, tt))
 
   -- the plan of the rule's own intervals
-  pub accepted_outcome : Accepted m → outcome_of m ≡ given (plan_of (distance_of m) (intervals_of m))
+  pub accepted_outcome : Accepted m → outcome_of m ≡ Ok (plan_of (distance_of m) (intervals_of m))
   unfolding outcome_of
   accepted_outcome h = all_pass (checks m) _ (accepted_passes h)
 
-  pub third_accepted_outcome : ThirdAccepted m → third_outcome_of m ≡ given (third_plan_of (distance_of m) (third_intervals_of m))
+  pub third_accepted_outcome : ThirdAccepted m → third_outcome_of m ≡ Ok (third_plan_of (distance_of m) (third_intervals_of m))
   unfolding third_outcome_of
   third_accepted_outcome h = all_pass (third_checks m) _ (third_passes h)
 

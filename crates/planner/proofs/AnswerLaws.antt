@@ -4,12 +4,11 @@ use mathlib.Core.Path.{◌≡◌, refl, sym, ap, ◌∙◌}
 use Prim.Native.Nat.{ℕ, zero, suc, ◌≤◌}
 use native.Mathlib.Omega.{arith}
 use lib.Dec.{eqb}
+use Rattle.std.specs.Prelude.{Result, Ok, Err}
 use Rattle.planner.specs.Outcome.{number, outcome}
 use Rattle.planner.specs.Claims.{OneAnswerClaim}
 use Rattle.planner.specs.declared.Refusal.{Refusal}
 use Rattle.planner.specs.declared.Refusal.TheVariants.{NoDisplacement, DisplacementRange, VelocityRange, AccelerationRange, JerkRange, SnapRange, TooManySamples, AxisCount, StartOrEndRange}
-use Rattle.planner.specs.declared.PlanAnswer.{PlanAnswer}
-use Rattle.planner.specs.declared.PlanAnswer.TheVariants.{Planned, Refused}
 use Rattle.planner.proofs.ResultLaws.{refused_or_given, same_refused, same_given}
 
 -- the refusal that a number names
@@ -51,11 +50,11 @@ number_not_8_to_10 TooManySamples h l = omega arith
 number_not_8_to_10 AxisCount h l = omega arith
 number_not_8_to_10 StartOrEndRange h l = omega arith
 
-pub outcome_injective : (x y : PlanAnswer) → outcome x ≡ outcome y → x ≡ y
-outcome_injective (Planned x) (Planned y) h = ap Planned (same_given h)
-outcome_injective (Planned x) (Refused y) h = absurd (refused_or_given (number y) x (sym h))
-outcome_injective (Refused x) (Planned y) h = absurd (refused_or_given (number x) y h)
-outcome_injective (Refused x) (Refused y) h = ap Refused (number_injective x y (same_refused h))
+pub outcome_injective : {A : Type 0} (x y : Result A Refusal) → outcome x ≡ outcome y → x ≡ y
+outcome_injective (Ok x) (Ok y) h = ap Ok (same_given h)
+outcome_injective (Ok x) (Err y) h = absurd (refused_or_given (number y) x (sym h))
+outcome_injective (Err x) (Ok y) h = absurd (refused_or_given (number x) y h)
+outcome_injective (Err x) (Err y) h = ap Err (number_injective x y (same_refused h))
 
 pub one_plan_answer : OneAnswerClaim
 one_plan_answer m x y h l = outcome_injective x y (h.outcome_is ∙ sym l.outcome_is)

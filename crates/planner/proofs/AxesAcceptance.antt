@@ -5,7 +5,8 @@ use mathlib.Core.Path.{◌≡◌, sym, ap, subst, ◌∙◌}
 use Prim.Native.Nat.{ℕ, ◌<◌}
 use lib.Dec.{eqb, ltb}
 use lib.ListN.{length, take, get_or}
-use Rattle.planner.specs.Result.{Result, refused, given, Each}
+use Rattle.planner.specs.Refusals.{Each}
+use Rattle.std.specs.Prelude.{Result, Ok, Err}
 use Rattle.planner.specs.Claims.{IsPlanned}
 use Rattle.planner.specs.Axes.{most_axes, rest_plan, axis_plan, all_at_rest, common_samples, axes_checks, axes_result, axes_places, PlansAxes}
 use Rattle.planner.specs.AxesClaims.{Moving, AcceptedAxis, axis_at, AcceptedAxes, AxesAcceptanceClaim}
@@ -25,7 +26,7 @@ module _ (count : ℕ) (moves : List Move) where
   -- no check applies
   pub axes_given :
       (eqb count 0 || ltb most_axes count) ≡ false → all_at_rest axes ≡ false → Each AcceptedAxis axes
-      → axes_result count moves ≡ given (common_samples axes)
+      → axes_result count moves ≡ Ok (common_samples axes)
   unfolding axes_result
   axes_given h r e = all_pass (axes_checks count moves) _ (h, (r, axes_pass 1 axes e))
 
@@ -40,7 +41,7 @@ module _ (count : ℕ) (moves : List Move) where
         not_all_rest axes s.axis (within count moves sent h.at_most _ s.counted)
         (subst Moving (sym (counted_at count moves _ s.counted)) s.moves_there)
 
-    pub accepted_axes_result : AcceptedAxes count moves → axes_result count moves ≡ given (common_samples axes)
+    pub accepted_axes_result : AcceptedAxes count moves → axes_result count moves ≡ Ok (common_samples axes)
     accepted_axes_result h = axes_given (range_passes most_axes count h.from_one h.at_most) (accepted_moves h) (accepted_each h)
 
     -- a set whose checks pass
@@ -55,7 +56,7 @@ module _ (count : ℕ) (moves : List Move) where
         }
 
   -- a set that was planned
-  module _ {n : ℕ} {plans : List Plan} (h : PlansAxes count moves (given n) plans) where
+  module _ {n : ℕ} {plans : List Plan} (h : PlansAxes count moves (Ok n) plans) where
     pub planned_common : n ≡ common_samples axes
     planned_common = common_is count moves h.outcome_is
 
@@ -77,6 +78,6 @@ axes_acceptance count moves sent o plans h = (
   λ k. subst IsPlanned (sym (h.outcome_is ∙ accepted_axes_result count moves sent k)) tt,
 )
   where
-    planned : (o : Result (ℕ × ℕ) ℕ) → PlansAxes count moves o plans → IsPlanned o → AcceptedAxes count moves
-    planned (refused x) h p = absurd p
-    planned (given n) h p = planned_accepted count moves h sent
+    planned : (o : Result ℕ (ℕ × ℕ)) → PlansAxes count moves o plans → IsPlanned o → AcceptedAxes count moves
+    planned (Err x) h p = absurd p
+    planned (Ok n) h p = planned_accepted count moves h sent

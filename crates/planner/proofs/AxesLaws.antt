@@ -5,11 +5,12 @@ use mathlib.Core.List.{List, [], ◌∷◌, ◌++◌, map}
 use Prim.Native.Nat.{ℕ, zero, suc, ◌+◌, ◌≤◌, ◌<◌, max}
 use native.Mathlib.Numerals.{add-one}
 use native.Mathlib.Omega.{arith}
-use lib.ListN.{length, take, drop, get_or}
-use lib.Seq.{drop-cons, take-suc}
-use Rattle.planner.specs.Result.{Result, refused, given, Check, check, first_refusal, Each}
+use lib.ListN.{length, take, get_or}
+use lib.Seq.{take-suc}
+use Rattle.planner.specs.Refusals.{Check, check, first_refusal, Each}
+use Rattle.std.specs.Prelude.{Result, Ok, Err}
 use Rattle.planner.specs.Outcome.{most_samples}
-use Rattle.planner.specs.Axes.{at_rest, all_at_rest, with_place, axis_checks, own_samples, common_samples, checks_from, axes_checks, axes_result}
+use Rattle.planner.specs.Axes.{at_rest, with_place, axis_checks, own_samples, common_samples, checks_from, axes_checks, axes_result}
 use Rattle.planner.specs.AxesClaims.{AcceptedAxis}
 use Rattle.planner.specs.declared.Move.{Move}
 use Rattle.planner.proofs.Clash.{clash}
@@ -19,13 +20,13 @@ use Rattle.planner.proofs.RuleRefusals.{Has, refusal_has}
 use Rattle.planner.proofs.AxisLaws.{both, passed_axis, axis_passes, own_most}
 
 -- the checks of one axis, and those of the axes after it
-module _ {B : Type 0} (place : ℕ) (ys : List (Check (ℕ × ℕ))) (o : Result (ℕ × ℕ) B) where
+module _ {B : Type 0} (place : ℕ) (ys : List (Check (ℕ × ℕ))) (o : Result B (ℕ × ℕ)) where
   pub placed_refused :
-      {A : Type 0} (xs : List (Check ℕ)) (x : A) (n : ℕ) → first_refusal xs (given x) ≡ refused n
-      → first_refusal (map (with_place place) xs ++ ys) o ≡ refused (n, place)
+      {A : Type 0} (xs : List (Check ℕ)) (x : A) (n : ℕ) → first_refusal xs (Ok x) ≡ Err n
+      → first_refusal (map (with_place place) xs ++ ys) o ≡ Err (n, place)
   unfolding first_refusal
   placed_refused [] x n h = absurd (clash cc)
-  placed_refused (check m true ∷ xs) x n h = let same : m ≡ n = cc in ap (λ (n : ℕ). refused (n, place)) same
+  placed_refused (check m true ∷ xs) x n h = let same : m ≡ n = cc in ap (λ (n : ℕ). Err (n, place)) same
   placed_refused (check m false ∷ xs) x n h = placed_refused xs x n h
 
   pub placed_passed :
@@ -77,20 +78,6 @@ unfolding common_samples
 common_most [] h = omega arith
 common_most (m ∷ ms) h = omega (arith, own_most m h.0, common_most ms h.1)
 
--- all at rest
-module _ (ms : List Move) (d : Move) (i : ℕ) (l : i < length ms) where
-  pub rest_next : at_rest (get_or ms i d) ≡ true → all_at_rest (drop i ms) ≡ all_at_rest (drop (i + 1) ms)
-  unfolding all_at_rest
-  rest_next h = rw (add-one i, drop-cons ms i d l, h) refl
-
-  pub rest_stop : at_rest (get_or ms i d) ≡ false → all_at_rest (drop i ms) ≡ false
-  unfolding all_at_rest
-  rest_stop h = rw (drop-cons ms i d l, h) refl
-
-pub rest_none : all_at_rest [] ≡ true
-unfolding all_at_rest
-rest_none = refl
-
 -- no refusal of a set has the number 0
 abbrev NumberFromOne : ℕ × ℕ → Type 0
 NumberFromOne x = 1 ≤ x.0
@@ -109,7 +96,7 @@ from_numbers place (m ∷ ms) =
     (each_mapped (with_place place) (Has (λ (n : ℕ). 1 ≤ n)) (Has NumberFromOne) (placed_number place) (axis_checks m) (axis_numbers m))
     (from_numbers (suc place) ms)
 
-pub refused_from_one : (count : ℕ) (moves : List Move) (x : ℕ × ℕ) → axes_result count moves ≡ refused x → 1 ≤ x.0
+pub refused_from_one : (count : ℕ) (moves : List Move) (x : ℕ × ℕ) → axes_result count moves ≡ Err x → 1 ≤ x.0
 unfolding axes_result
 refused_from_one count moves =
     refusal_has NumberFromOne (axes_checks count moves) _ (omega arith, (omega arith, from_numbers 1 (take count moves)))

@@ -8,7 +8,7 @@ use Prim.Native.Nat.{ℕ, zero, suc, ◌+◌, ◌<◌}
 use native.Mathlib.Omega.{arith}
 use lib.Dec.{eqb, ltb}
 use lib.ListN.{length, take}
-use Rattle.planner.specs.Result.{Check, check, Each}
+use Rattle.planner.specs.Refusals.{Check, check, Each}
 use Rattle.planner.specs.Order.{FirstToApply}
 use Rattle.planner.specs.Axes.{most_axes, with_place, axis_checks, all_at_rest, common_samples, checks_from, axes_checks, axes_result}
 use Rattle.planner.specs.AxesClaims.{axis_at, AcceptedAxis, Moving, Resting, Reason, not_a_count, all_rest, axis_refused, AxesRefusedClaim}

@@ -8,12 +8,13 @@ use native.Mathlib.Nat.{pos_of_ne-zero}
 use native.Mathlib.Omega.{arith}
 use lib.IntN.{nat_abs}
 use Rattle.planner.specs.Intervals.{N}
-use Rattle.planner.specs.Result.{refused, given, Each, Check, first_refusal}
+use Rattle.planner.specs.Refusals.{Each, Check, first_refusal}
+use Rattle.std.specs.Prelude.{Ok, Err}
 use Rattle.planner.specs.Outcome.{most_samples, bound_checks, ends_outside, span_check, intervals_in, samples_of}
 use Rattle.planner.specs.Claims.{EndsInSpan}
 use Rattle.planner.specs.Axes.{rest_plan, at_rest, axis_checks, own_samples}
 use Rattle.planner.specs.AxesClaims.{Moving, Resting, AcceptedAxis}
-use Rattle.planner.specs.Inner.Undivided.{undivided_result, bounds_result}
+use Rattle.planner.specs.Inner.Undivided.{undivided_result, checked}
 use Rattle.planner.specs.Inner.AxisAnswers.{undivided_axis, axis_result}
 use Rattle.planner.specs.declared.Move.{Move}
 use Rattle.planner.specs.declared.Plan.{Plan}
@@ -81,27 +82,27 @@ module _ (m : Move) where
   axis_ends_in_span h = by_rest (λ q. (h.resting (rest_resting q)).1) (λ q. (h.moving (rest_moving q)).is_in_range.ends)
 
   -- what `undivided_axis` answers
-  resting_is : at_rest m ≡ true → axis_result m ≡ first_refusal (own_bounds ++ own_span) (given rest_plan)
+  resting_is : at_rest m ≡ true → axis_result m ≡ first_refusal (own_bounds ++ own_span) (Ok rest_plan)
   unfolding axis_result
-  resting_is h = ap₂ (λ xs t. first_refusal xs (given t)) (chosen _ _ h) (chosen _ _ h)
+  resting_is h = ap₂ (λ xs t. first_refusal xs (Ok t)) (chosen _ _ h) (chosen _ _ h)
 
   pub moving_is : at_rest m ≡ false → axis_result m ≡ undivided_result m
   unfolding undivided_result axis_result
-  moving_is h = ap₂ (λ xs t. first_refusal xs (given t)) (chosen _ _ h) (chosen _ _ h)
+  moving_is h = ap₂ (λ xs t. first_refusal xs (Ok t)) (chosen _ _ h) (chosen _ _ h)
 
-  pub resting_refused : (n : ℕ) → at_rest m ≡ true → refused n ≡ bounds_result own_bounds → refused n ≡ axis_result m
-  unfolding bounds_result
+  pub resting_refused : (n : ℕ) → at_rest m ≡ true → Err n ≡ checked own_bounds → Err n ≡ axis_result m
+  unfolding checked
   resting_refused n h q = refused_on own_bounds own_span tt _ n q ∙ sym (resting_is h)
 
-  module _ (h : at_rest m ≡ true) (q : given tt ≡ bounds_result own_bounds) where
-    span_left : first_refusal own_span (given rest_plan) ≡ axis_result m
-    unfolding bounds_result
+  module _ (h : at_rest m ≡ true) (q : Ok tt ≡ checked own_bounds) where
+    span_left : first_refusal own_span (Ok rest_plan) ≡ axis_result m
+    unfolding checked
     span_left = passed_on own_bounds own_span tt _ tt q ∙ sym (resting_is h)
 
-    pub resting_outside : ends_outside m.displacement m.start ≡ true → refused 14 ≡ axis_result m
+    pub resting_outside : ends_outside m.displacement m.start ≡ true → Err 14 ≡ axis_result m
     resting_outside t = (stop t).is ∙ span_left
 
-    pub resting_found : ends_outside m.displacement m.start ≡ false → given rest_plan ≡ axis_result m
+    pub resting_found : ends_outside m.displacement m.start ≡ false → Ok rest_plan ≡ axis_result m
     resting_found t = (skip t none_left).is ∙ span_left
 
   pub own_is : N (intervals_in (undivided_axis m)) ≡ own_samples m
@@ -114,7 +115,7 @@ module _ (m : Move) where
       (λ q. subst (λ (n : ℕ). n ≤ most_samples) (sym (chosen _ _ q)) (h.moving (rest_moving q)).short_enough)
 
   -- what follows where it was not refused
-  module _ {x : Plan} (h : given x ≡ axis_result m) where
+  module _ {x : Plan} (h : Ok x ≡ axis_result m) where
     pub axis_accepted : AcceptedAxis m
     unfolding axis_result
     axis_accepted = passed_axis (passed (axis_checks m) _ _ (sym h))

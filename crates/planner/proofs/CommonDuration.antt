@@ -6,7 +6,7 @@ use native.Mathlib.Nat.{le_trans}
 use native.Mathlib.Omega.{arith}
 use lib.ListN.{length, take}
 use Rattle.planner.specs.Intervals.{N}
-use Rattle.planner.specs.Result.{given}
+use Rattle.std.specs.Prelude.{Ok}
 use Rattle.planner.specs.Outcome.{samples_of, intervals_in}
 use Rattle.planner.specs.Axes.{most_axes, axis_plan, own_samples, common_samples, PlansAxes}
 use Rattle.planner.specs.AxesClaims.{Moving, axis_at, CommonDurationClaim}
@@ -24,7 +24,7 @@ moving_end : (m : Move) (n : ℕ) → Moving m → samples_of m ≤ n → N (int
 moving_end m n h l = ap (λ (x : Plan). N (intervals_in x)) (moving_plan m n (moving_rest m h)) ∙ takes_common m n l
 
 module _ (count : ℕ) (moves : List Move) (sent : length moves ≡ most_axes)
-    {n : ℕ} {plans : List Plan} (h : PlansAxes count moves (given n) plans) where
+    {n : ℕ} {plans : List Plan} (h : PlansAxes count moves (Ok n) plans) where
   pub own_not_longer : (i : ℕ) → i < count → Moving (axis_at moves i) → samples_of (axis_at moves i) ≤ n
   own_not_longer i l k =
       let own : own_samples (axis_at moves i) ≤ common_samples (take count moves) =

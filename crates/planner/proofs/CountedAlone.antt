@@ -3,7 +3,7 @@ use mathlib.Core.List.{List}
 use mathlib.Core.Path.{◌≡◌, refl, ap, ◌∙◌}
 use Prim.Native.Nat.{ℕ}
 use lib.ListN.{take}
-use Rattle.planner.specs.Result.{Result, refused, given}
+use Rattle.std.specs.Prelude.{Result, Ok, Err}
 use Rattle.planner.specs.Axes.{rest_plan, axis_plan, common_samples, axes_result, axes_places}
 use Rattle.planner.specs.AxesClaims.{CountedAloneClaim}
 use Rattle.planner.specs.declared.Move.{Move}
@@ -11,7 +11,7 @@ use Rattle.planner.specs.declared.Plan.{Plan}
 
 -- the places of a set, with a row for each axis at the common duration
 abbrev pub places_for :
-    (count : ℕ) (moves : List Move) → {O A : Type 0} (zeros : A) (row : ℕ → Move → A) → Result (ℕ × ℕ) O → List A
+    (count : ℕ) (moves : List Move) → {O A : Type 0} (zeros : A) (row : ℕ → Move → A) → Result O (ℕ × ℕ) → List A
 places_for count moves zeros row = axes_places count moves zeros (row (common_samples (take count moves)))
 
 module _ (count : ℕ) (moves others : List Move) (q : take count moves ≡ take count others) where
@@ -20,10 +20,10 @@ module _ (count : ℕ) (moves others : List Move) (q : take count moves ≡ take
   same_result = rw q refl
 
   pub same_places_for :
-      {O A : Type 0} (zeros : A) (row : ℕ → Move → A) (o : Result (ℕ × ℕ) O)
+      {O A : Type 0} (zeros : A) (row : ℕ → Move → A) (o : Result O (ℕ × ℕ))
       → places_for count moves zeros row o ≡ places_for count others zeros row o
-  same_places_for zeros row (refused x) = refl
-  same_places_for zeros row (given n) = rw q refl
+  same_places_for zeros row (Err x) = refl
+  same_places_for zeros row (Ok n) = rw q refl
 
 pub counted_alone : (count : ℕ) (moves : List Move) → CountedAloneClaim count moves
 counted_alone count moves others q o plans h =

@@ -5,7 +5,7 @@ use Prim.Native.Nat.{ℕ, ◌≤◌, ◌<◌}
 use native.Mathlib.Omega.{arith}
 use lib.ListN.{length, take}
 use lib.Seq.{length-take-le, get_or-take}
-use Rattle.planner.specs.Result.{Each}
+use Rattle.planner.specs.Refusals.{Each}
 use Rattle.planner.specs.Axes.{most_axes}
 use Rattle.planner.specs.AxesClaims.{Moving, axis_at, SomeMoves}
 use Rattle.planner.specs.declared.Move.{Move}

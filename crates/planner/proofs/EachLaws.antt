@@ -3,7 +3,7 @@ use mathlib.Core.List.{List, [], ◌∷◌, ◌++◌, map}
 use Prim.Native.Nat.{ℕ, zero, suc, ◌<◌}
 use native.Mathlib.Omega.{arith}
 use lib.ListN.{length, get_or}
-use Rattle.planner.specs.Result.{Each}
+use Rattle.planner.specs.Refusals.{Each}
 
 module _ {A : Type 0} (P : A → Type 0) where
   pub each_joined : (xs ys : List A) → Each P xs → Each P ys → Each P (xs ++ ys)

@@ -1,21 +1,21 @@
 -- The checks of the figures that both orders read: what they come to, as far as they have been made, and what is left of an outcome after
 -- them.
-use borrow.Author.Tests.{eq-eqb, ne_eqb, lt-ltb, le-ltb, ltb-false, eqb-false}
-use mathlib.Core.Path.{◌≡◌, sym, subst}
-use mathlib.Core.List.{List, [], ◌++◌}
-use Prim.Native.Nat.{ℕ, ◌≤◌, ◌<◌, ◌^◌}
+use borrow.Author.Tests.{ne_eqb, le-ltb, ltb-false, eqb-false}
+use mathlib.Core.Path.{◌≡◌, sym}
+use mathlib.Core.List.{List, ◌++◌}
+use Prim.Native.Nat.{ℕ, ◌≤◌, ◌^◌}
 use native.Mathlib.Nat.{mul-le-mul_left, pos_of_ne-zero}
 use native.Mathlib.Omega.{arith}
 use lib.IntN.{ℤ, nat_abs}
 use Rattle.planner.specs.Quantities.{distance, units_per_count}
-use Rattle.planner.specs.Result.{Each, Result, refused, given, Check, first_refusal}
-use Rattle.planner.specs.Outcome.{most_counts, bound_checks_to_jerk, distance_of}
+use Rattle.planner.specs.Refusals.{Each, Check, first_refusal}
+use Rattle.std.specs.Prelude.{Result, Ok, Err}
+use Rattle.planner.specs.Outcome.{most_counts, distance_of}
 use Rattle.planner.specs.Claims.{EndsInSpan}
 use Rattle.planner.specs.ThirdClaims.{ThirdInRange}
-use Rattle.planner.specs.Inner.Capped.{FiguresToJerk}
-use Rattle.planner.specs.Inner.Undivided.{figure_checks, figures_result, bounds_result}
+use Rattle.planner.specs.Inner.Undivided.{figure_checks, figures_result}
 use Rattle.planner.specs.declared.Move.{Move}
-use Rattle.planner.proofs.RefusalLaws.{Passes, stop, skip, passed, passed_same, refused_on, passed_on, bound_in_range, bound_passes}
+use Rattle.planner.proofs.RefusalLaws.{Passes, passed_same, refused_on, passed_on, bound_in_range, bound_passes}
 
 pub near_distance : (X : ℤ) → nat_abs X ≤ most_counts → distance X ≤ 2 ^ 60
 unfolding distance
@@ -52,56 +52,18 @@ module _ (m : Move) where
     ),
   )
 
-  -- what `check_figures` answers
-  pub no_displacement : size ≡ 0 → refused 1 ≡ figures_of
-  unfolding figures_result
-  no_displacement h = (stop (eq-eqb _ _ h)).is
-
-  module _ (moves : size ≡ 0 → ⊥) where
-    pub displacement_far : most_counts < size → refused 2 ≡ figures_of
-    unfolding figures_result
-    displacement_far h = (skip (ne_eqb _ _ moves) (stop (lt-ltb most_counts size h))).is
-
-    module _ (near : size ≤ most_counts) where
-      abbrev bounds : List (Check ℕ)
-      bounds = bound_checks_to_jerk m.velocity m.acceleration m.jerk
-
-      after_two : {o : Result ℕ ℕ} → o ≡ first_refusal (bounds ++ []) (given (distance_of m)) → o ≡ figures_of
-      unfolding figures_result
-      after_two h = (skip (ne_eqb _ _ moves) (skip (le-ltb most_counts size near) (record { is = h }))).is
-
-      pub bound_refused : (n : ℕ) → refused n ≡ bounds_result bounds → refused n ≡ figures_of
-      unfolding bounds_result
-      bound_refused n h = after_two (refused_on bounds [] tt _ n h)
-
-      pub bounds_passed : given tt ≡ bounds_result bounds → given (distance_of m) ≡ figures_of
-      unfolding bounds_result first_refusal
-      bounds_passed h = after_two (passed_on bounds [] tt (given (distance_of m)) tt h)
-
-  -- and what is left after it: the checks `last`
-  module _ {A : Type 0} (last : List (Check ℕ)) (o : Result ℕ A) where
-    pub figures_refused : (n : ℕ) → refused n ≡ figures_of → refused n ≡ first_refusal (figure_checks_of ++ last) o
+  -- what is left after them: the checks `last`
+  module _ {A : Type 0} (last : List (Check ℕ)) (o : Result A ℕ) where
+    pub figures_refused : (n : ℕ) → Err n ≡ figures_of → Err n ≡ first_refusal (figure_checks_of ++ last) o
     unfolding figures_result
     figures_refused n h = refused_on figure_checks_of last _ o n h
 
     pub figures_passed :
-        {W : ℕ} → given W ≡ figures_of → first_refusal last o ≡ first_refusal (figure_checks_of ++ last) o
+        {W : ℕ} → Ok W ≡ figures_of → first_refusal last o ≡ first_refusal (figure_checks_of ++ last) o
     unfolding figures_result
     figures_passed h = passed_on figure_checks_of last _ o _ h
 
-  module _ {W : ℕ} (h : given W ≡ figures_of) where
+  module _ {W : ℕ} (h : Ok W ≡ figures_of) where
     pub measured : W ≡ distance_of m
     unfolding figures_result
     measured = sym (passed_same figure_checks_of _ _ (sym h))
-
-    pub figures : FiguresToJerk W m.velocity m.acceleration m.jerk
-    unfolding figures_result
-    figures =
-        let p = passed figure_checks_of _ _ (sym h) in
-        let near = near_distance m.displacement (ltb-false most_counts size p.1.0) in
-        record {
-          distance = subst (λ (W : ℕ). W ≤ 2 ^ 60) (sym measured) near;
-          velocity = bound_in_range _ p.1.1.0;
-          acceleration = bound_in_range _ p.1.1.1.0;
-          jerk = bound_in_range _ p.1.1.1.1.0;
-        }

@@ -1,15 +1,14 @@
 -- The sizes of sums and differences of signed numbers, and when a number fits 64 bits.
 use mathlib.Core.Bool.{Bool, true, false, cond}
-use mathlib.Core.Path.{◌≡◌, refl, ap, ◌∙◌}
+use mathlib.Core.Path.{◌≡◌, refl}
 use Prim.Native.Nat.{ℕ, zero, suc, ◌+◌, ◌-◌, ◌^◌, ◌≤◌}
 use native.Mathlib.Nat.{le_refl}
 use native.Mathlib.Omega.{arith}
 use borrow.Author.Tests.{ltb-true, ltb-false}
 use lib.Dec.{ltb}
-use lib.IntN.{ℤ, pos, negsuc, neg_ℤ, nat_abs, ◌+ℤ◌, ◌-ℤ◌, +ℤ_comm, +ℤ-neg_ℤ_cancel}
+use lib.IntN.{ℤ, pos, negsuc, nat_abs, ◌+ℤ◌, ◌-ℤ◌, +ℤ_comm}
 use mir.Syntax.{w64}
 use mir.Val.{SFits}
-use Rattle.planner.proofs.Sign.{size_negated}
 
 -- the distance of two natural numbers
 size_below : (m n : ℕ) (t : Bool) → ltb m n ≡ t → nat_abs (cond t (negsuc (n - suc m)) (pos (m - n))) ≡ (m - n) + (n - m)
@@ -26,12 +25,6 @@ size_sum (pos m) (pos n) = le_refl (m + n)
 size_sum (pos m) (negsuc n) = omega (arith, size_difference m (suc n))
 size_sum (negsuc m) (pos n) = rw (+ℤ_comm (negsuc m) (pos n)) (omega (arith, size_difference n (suc m)))
 size_sum (negsuc m) (negsuc n) = omega arith
-
--- and a part is at most as large as the sum and the other part together
-pub size_part : (x y : ℤ) → nat_abs y ≤ nat_abs (x +ℤ y) + nat_abs x
-size_part x y =
-    let back : nat_abs (x +ℤ y -ℤ x) ≡ nat_abs y = ap (λ z. nat_abs (z -ℤ x)) (+ℤ_comm x y) ∙ ap nat_abs (+ℤ-neg_ℤ_cancel y x) in
-    omega (arith, size_sum (x +ℤ y) (neg_ℤ x), size_negated x, back)
 
 -- what is at most 2^62 in size fits an i64
 pub size_fits : (x : ℤ) → nat_abs x ≤ 2 ^ 62 → SFits w64 x

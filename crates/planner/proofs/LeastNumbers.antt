@@ -6,7 +6,7 @@ use Prim.Native.Nat.{ℕ, ◌+◌, ◌*◌, ◌^◌, ◌≤◌, min, max}
 use native.Mathlib.Omega.{arith}
 use Rattle.planner.specs.Least.{least, IsLeast}
 use Rattle.planner.specs.Intervals.{interval_a, interval_b, interval_c, interval_e, a, b, c, e, J₁, A₁, V₁}
-use Rattle.planner.specs.Result.{Each}
+use Rattle.planner.specs.Refusals.{Each}
 use Rattle.planner.specs.Outcome.{distance_of, intervals_of}
 use Rattle.planner.specs.Claims.{InRange, of_move}
 use Rattle.planner.specs.Third.{third_interval_b, third_intervals_of}

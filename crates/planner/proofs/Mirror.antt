@@ -5,7 +5,7 @@ use Prim.Native.Nat.{ℕ}
 use lib.IntN.{nat_abs, neg_ℤ, ◌+ℤ◌, neg_ℤ-+ℤ}
 use Rattle.planner.specs.Quantities.{distance}
 use Rattle.planner.specs.Outcome.{intervals_of, samples_of, outcome_of}
-use Rattle.planner.specs.Result.{Result}
+use Rattle.std.specs.Prelude.{Result}
 use Rattle.planner.specs.Claims.{Accepted, IsPlanned, mirrored, MirrorClaim}
 use Rattle.planner.specs.Third.{third_intervals_of, third_samples_of, third_outcome_of}
 use Rattle.planner.specs.ThirdClaims.{ThirdAccepted, ThirdMirrorClaim}
@@ -27,7 +27,7 @@ third_same_outcome m = rw (size_negated m.displacement, size_negated m.start, mi
 
 -- what is accepted by the outcome is accepted either way
 either_way :
-    {A : Type 0} (Accepts : Move → Type 0) (outcome : Move → Result ℕ A) → ((m : Move) → IsPlanned (outcome m) ↔ Accepts m)
+    {A : Type 0} (Accepts : Move → Type 0) (outcome : Move → Result A ℕ) → ((m : Move) → IsPlanned (outcome m) ↔ Accepts m)
     → (m : Move) → outcome (mirrored m) ≡ outcome m
     → Accepts m ↔ Accepts (mirrored m)
 either_way Accepts outcome by m same = (

@@ -9,7 +9,7 @@ use borrow.Author.Tests.{le-ltb}
 use lib.Dec.{ltb}
 use lib.IntN.{ℤ, pos, nat_abs, +ℤ_idl}
 use lib.ListN.{length-map}
-use Rattle.planner.specs.Result.{Check, check, Each}
+use Rattle.planner.specs.Refusals.{Check, check, Each}
 use Rattle.planner.specs.Order.{FirstToApply}
 use Rattle.planner.specs.Outcome.{most_samples, most_counts, out_of_range, out_of_span, ends_outside, span_check, displacement_checks, bound_checks_to_jerk, samples_of, checks, outcome_of}
 use Rattle.planner.specs.Third.{third_samples_of, third_checks, third_outcome_of}

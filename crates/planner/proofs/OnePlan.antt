@@ -3,7 +3,8 @@ use mathlib.Core.List.{List, [], ◌∷◌, map}
 use mathlib.Core.Path.{◌≡◌, refl, sym, ap, ap₂, ◌∙◌}
 use Prim.Native.Nat.{ℕ, max}
 use lib.ListN.{take}
-use Rattle.planner.specs.Result.{given, padded}
+use Rattle.planner.specs.Refusals.{padded}
+use Rattle.std.specs.Prelude.{Ok}
 use Rattle.planner.specs.Outcome.{distance_of, intervals_of, samples_of, plan_of}
 use Rattle.planner.specs.Third.{third_intervals_of, third_plan_of}
 use Rattle.planner.specs.Axes.{most_axes, rest_plan, axis_plan, own_samples, common_samples, axes_places, PlansAxes}
@@ -59,7 +60,7 @@ module _ (xs ys : List Move) (q : map from_zero xs ≡ map from_zero ys) where
 
 -- the places of a set that was planned
 places :
-    (count : ℕ) (moves : List Move) {n : ℕ} {plans : List Plan} → PlansAxes count moves (given n) plans
+    (count : ℕ) (moves : List Move) {n : ℕ} {plans : List Plan} → PlansAxes count moves (Ok n) plans
     → let axes = take count moves in
     plans ≡ padded most_axes rest_plan (map (λ m. axis_plan m (common_samples axes)) axes)
 places count moves h =

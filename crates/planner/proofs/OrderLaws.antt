@@ -6,7 +6,8 @@ use mathlib.Core.Path.{◌≡◌, refl, sym, ap, subst}
 use Prim.Native.Nat.{ℕ, ◌≤◌}
 use native.Mathlib.Nat.{le_refl}
 use native.Mathlib.Omega.{arith}
-use Rattle.planner.specs.Result.{Each, refused, Check, check, first_refusal}
+use Rattle.planner.specs.Refusals.{Each, Check, check, first_refusal}
+use Rattle.std.specs.Prelude.{Err}
 use Rattle.planner.specs.Order.{rank, FirstClaim, Rising, NotBelow, LowestClaim, PlanOrderClaim}
 use Rattle.planner.proofs.ResultLaws.{refused_or_given, same_refused}
 
@@ -15,7 +16,7 @@ unfolding first_refusal
 first_given R A [] x n = (λ h. refused_or_given n x (sym h), λ h. absurd h)
 first_given R A (check number true ∷ xs) x n = (
   λ h. inl (refl, same_refused h),
-  λ h. elim h [ inl p ↦ ap refused p.1 | inr p ↦ absurd (true≢false p.0) ],
+  λ h. elim h [ inl p ↦ ap Err p.1 | inr p ↦ absurd (true≢false p.0) ],
 )
 first_given R A (check number false ∷ xs) x n = (
   λ h. inr (refl, (first_given R A xs x n).0 h),

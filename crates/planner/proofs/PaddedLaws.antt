@@ -6,7 +6,7 @@ use native.Mathlib.Numerals.{add-one}
 use native.Mathlib.Omega.{arith}
 use lib.ListN.{get_or-append, length, take, drop, set, get_or, replicate, length-append, length-map, length-replicate}
 use lib.Seq.{take-suc, drop-cons, length-take-le, set_at, get_or_at}
-use Rattle.planner.specs.Result.{padded}
+use Rattle.planner.specs.Refusals.{padded}
 
 one_left : (places i n : ℕ) → i < places → n ≡ i → places - n ≡ suc (places - suc i)
 one_left places i n h q = omega arith

@@ -5,13 +5,12 @@ use native.Mathlib.Nat.{le_refl, le_trans, mul-le-mul_left, min-le_left, min-le_
 use native.Mathlib.Omega.{arith}
 use Rattle.planner.specs.Quantities.{distance}
 use Rattle.planner.specs.Intervals.{Intervals, a, J₁, b, A₁, V₁, from_b, N, P, D}
-use Rattle.planner.specs.Result.{given}
+use Rattle.std.specs.Prelude.{Ok, Result}
 use Rattle.planner.specs.Outcome.{distance_of, intervals_of, intervals_in, samples_of, most_samples, plan_of, Plans, outcome}
 use Rattle.planner.specs.Claims.{InRange, Accepted, of_move, IntervalClaim}
 use Rattle.planner.specs.declared.Move.{Move}
 use Rattle.planner.specs.declared.Plan.{Plan}
-use Rattle.planner.specs.declared.PlanAnswer.{PlanAnswer}
-use Rattle.planner.specs.declared.PlanAnswer.TheVariants.{Planned}
+use Rattle.planner.specs.declared.Refusal.{Refusal}
 use Rattle.planner.specs.Inner.Facts.{Ordered, KeepsBounds, PlanFacts}
 use Rattle.planner.proofs.ResultLaws.{same_given}
 use Rattle.planner.proofs.Acceptance.{acceptance, accepted_outcome}
@@ -99,14 +98,14 @@ interval_claim m =
     }
 
 module _ {m : Move} where
-  pub planned_facts : {x : Plan} → Plans m (given x) → PlanFacts m (intervals_of m) x
+  pub planned_facts : {x : Plan} → Plans m (Ok x) → PlanFacts m (intervals_of m) x
   planned_facts h =
       let k = (acceptance m _ h).0 tt in
       subst (PlanFacts m (intervals_of m)) (sym (same_given (h.outcome_is ∙ accepted_outcome m k))) (rule_facts m k)
 
   -- the same for an answer that was taken apart
-  pub answer_facts : {r : PlanAnswer} {x : Plan} → Plans m (outcome r) → r ≡ Planned x → PlanFacts m (intervals_of m) x
-  answer_facts h q = planned_facts (subst (λ (r : PlanAnswer). Plans m (outcome r)) q h)
+  pub answer_facts : {r : Result Plan Refusal} {x : Plan} → Plans m (outcome r) → r ≡ Ok x → PlanFacts m (intervals_of m) x
+  answer_facts h q = planned_facts (subst (λ (r : Result Plan Refusal). Plans m (outcome r)) q h)
 
   -- A plan's snap is not 0: the distance is at least 2^40, and P at most 2^39.
   pub snap_from_one : {t : Intervals} {x : Plan} → PlanFacts m t x → 0 < x.snap

@@ -8,7 +8,7 @@ use native.Mathlib.Omega.{arith}
 use lib.Dec.{eqb}
 use lib.ListN.{length, get_or, replicate}
 use Rattle.planner.specs.Intervals.{Intervals, N}
-use Rattle.planner.specs.Result.{Each, padded}
+use Rattle.planner.specs.Refusals.{Each, padded}
 use Rattle.planner.specs.Outcome.{most_samples, distance_of, intervals_of, intervals_in, samples_of, plan_of}
 use Rattle.planner.specs.Claims.{Accepted}
 use Rattle.planner.specs.Axes.{most_axes, rest_plan, raised, at_rest, own_samples, common_samples, axis_plan}

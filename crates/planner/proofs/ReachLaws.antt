@@ -1,12 +1,13 @@
 -- Laws of n·(u+n)^d: small powers, bounds, growth with n, and what a search finds for it.
 use mathlib.Core.Path.{◌≡◌, ap, subst, ◌∙◌}
-use Prim.Native.Nat.{ℕ, zero, suc, ◌+◌, ◌-◌, ◌*◌, ◌/◌, ◌^◌, ◌≤◌, min, max}
+use Prim.Native.Nat.{ℕ, zero, suc, ◌+◌, ◌*◌, ◌^◌, ◌≤◌, min, max}
 use native.Mathlib.Nat.{le_trans, mul-le-mul, mul-le-mul_left, pow-zero, pow-suc, pow-le-pow_left, pow-le-pow_right, one-le-pow, one-mul, mul_comm, le-mul_of_pos_right}
 use native.Mathlib.Omega.{arith}
 use Rattle.planner.specs.Least.{least}
 use Rattle.planner.specs.Inner.Search.{growth, scaled, LeastWithin}
 use Rattle.planner.proofs.LeastLaws.{least_is}
 use Rattle.planner.proofs.SpanLaws.{Rising, within_least}
+use Rattle.std.specs.Int.{div_ceil}
 use Rattle.planner.proofs.Ceiling.{within_scaled}
 
 pub pow_one : (m : ℕ) → m ^ 1 ≡ m
@@ -39,7 +40,7 @@ module _ (k u d : ℕ) (hk : 1 ≤ k) where
   -- what the search finds for the quotient is the least number for the bound, as far as the span goes
   pub least_between :
       (t : ℕ) {lo hi r : ℕ} → 1 ≤ lo → lo ≤ hi →
-      LeastWithin ((t + (k - 1)) / k) (growth u d) lo hi r → r ≡ max lo (min hi (least t (scaled k u d)))
+      LeastWithin (div_ceil t k) (growth u d) lo hi r → r ≡ max lo (min hi (least t (scaled k u d)))
   least_between t one h w =
       within_least (λ m n le. mul-le-mul_left k (growth_rising u d m n le)) one h (least_is t (scaled k u d) scaled_at_least)
       (within_scaled k t hk w)

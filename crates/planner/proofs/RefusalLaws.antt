@@ -8,32 +8,33 @@ use native.Mathlib.Nat.{pos_of_ne-zero}
 use native.Mathlib.Omega.{arith}
 use borrow.Author.Tests.{lt-ltb, le-ltb, ne_eqb, ltb-false, eqb-false}
 use lib.Dec.{eqb, ltb}
-use Rattle.planner.specs.Result.{Each, Result, refused, given, Check, check, first_refusal}
+use Rattle.planner.specs.Refusals.{Each, Check, check, first_refusal}
+use Rattle.std.specs.Prelude.{Result, Ok, Err}
 use Rattle.planner.specs.Intervals.{Intervals, N, intervals_by}
 use Rattle.planner.specs.Outcome.{out_of_range, bound_checks, most_bound, most_samples}
 use Rattle.planner.specs.Claims.{BoundInRange, BoundsInRange, IsPlanned}
-use Rattle.planner.specs.Inner.Capped.{FiguresToJerk, Figures, IntervalsAgree}
-use Rattle.planner.specs.Inner.Undivided.{undivided, undivided_within}
+use Rattle.planner.specs.Inner.Capped.{IntervalsAgree}
+use Rattle.planner.specs.Inner.Undivided.{undivided, undivided_within, checked}
 use Rattle.planner.proofs.Clash.{clash}
 use Rattle.planner.proofs.ResultLaws.{same_given}
 
 -- p is what the checks xs leave of the outcome o
-pub record Gives {R A : Type 0} (xs : List (Check R)) (o p : Result R A) : Type 0 where
+pub record Gives {R A : Type 0} (xs : List (Check R)) (o p : Result A R) : Type 0 where
   pub is : p ≡ first_refusal xs o
 
 -- a check that applies, and one that does not
 module _ {R A : Type 0} where
-  pub stop : {n : R} {t : Bool} {xs : List (Check R)} {o : Result R A} → t ≡ true → Gives (check n t ∷ xs) o (refused n)
+  pub stop : {n : R} {t : Bool} {xs : List (Check R)} {o : Result A R} → t ≡ true → Gives (check n t ∷ xs) o (Err n)
   unfolding first_refusal
   stop {t = true} h = record { is = refl }
   stop {t = false} h = absurd (true≢false (sym h))
 
-  pub skip : {n : R} {t : Bool} {xs : List (Check R)} {o p : Result R A} → t ≡ false → Gives xs o p → Gives (check n t ∷ xs) o p
+  pub skip : {n : R} {t : Bool} {xs : List (Check R)} {o p : Result A R} → t ≡ false → Gives xs o p → Gives (check n t ∷ xs) o p
   unfolding first_refusal
   skip {t = true} h g = absurd (true≢false h)
   skip {t = false} h g = record { is = g.is }
 
-  pub none_left : {o : Result R A} → Gives [] o o
+  pub none_left : {o : Result A R} → Gives [] o o
   unfolding first_refusal
   none_left = record { is = refl }
 
@@ -42,24 +43,24 @@ abbrev pub Passes : {R : Type 0} → Check R → Type 0
 Passes (check n test) = test ≡ false
 
 module _ {R A : Type 0} where
-  pub all_pass : (xs : List (Check R)) (o : Result R A) → Each Passes xs → first_refusal xs o ≡ o
+  pub all_pass : (xs : List (Check R)) (o : Result A R) → Each Passes xs → first_refusal xs o ≡ o
   unfolding first_refusal
   all_pass [] o p = refl
   all_pass (check n test ∷ xs) o p = rw p.0 (all_pass xs o p.1)
 
   -- where something is given, no check applied
-  pub passed : (xs : List (Check R)) (x y : A) → first_refusal xs (given x) ≡ given y → Each Passes xs
+  pub passed : (xs : List (Check R)) (x y : A) → first_refusal xs (Ok x) ≡ Ok y → Each Passes xs
   unfolding first_refusal
   passed [] x y h = tt
   passed (check n true ∷ xs) x y h = absurd (clash cc)
   passed (check n false ∷ xs) x y h = (refl, passed xs x y h)
 
   -- and it is what would be given
-  pub passed_same : (xs : List (Check R)) (x y : A) → first_refusal xs (given x) ≡ given y → x ≡ y
-  passed_same xs x y h = same_given (sym (all_pass xs (given x) (passed xs x y h)) ∙ h)
+  pub passed_same : (xs : List (Check R)) (x y : A) → first_refusal xs (Ok x) ≡ Ok y → x ≡ y
+  passed_same xs x y h = same_given (sym (all_pass xs (Ok x) (passed xs x y h)) ∙ h)
 
   -- a list of checks after another
-  pub checks_joined : (xs ys : List (Check R)) (o : Result R A) → first_refusal (xs ++ ys) o ≡ first_refusal xs (first_refusal ys o)
+  pub checks_joined : (xs ys : List (Check R)) (o : Result A R) → first_refusal (xs ++ ys) o ≡ first_refusal xs (first_refusal ys o)
   unfolding first_refusal
   checks_joined [] ys o = refl
   checks_joined (check n true ∷ xs) ys o = refl
@@ -67,28 +68,28 @@ module _ {R A : Type 0} where
 
 -- a refusal does not depend on what would be given
 pub same_refusal :
-    {R A B : Type 0} (xs : List (Check R)) (x : A) (o : Result R B) (n : R) → first_refusal xs (given x) ≡ refused n
-    → first_refusal xs o ≡ refused n
+    {R A B : Type 0} (xs : List (Check R)) (x : A) (o : Result B R) (n : R) → first_refusal xs (Ok x) ≡ Err n
+    → first_refusal xs o ≡ Err n
 unfolding first_refusal
 same_refusal [] x o n h = absurd (clash cc)
-same_refusal (check m true ∷ xs) x o n h = let same : m ≡ n = cc in ap refused same
+same_refusal (check m true ∷ xs) x o n h = let same : m ≡ n = cc in ap Err same
 same_refusal (check m false ∷ xs) x o n h = same_refusal xs x o n h
 
 -- Checks that are made in two parts: a refusal of the first is the refusal of both, and where the first gives something the second decides.
-module _ {R A B : Type 0} (xs ys : List (Check R)) (x : A) (o : Result R B) where
-  pub refused_on : (n : R) → refused n ≡ first_refusal xs (given x) → refused n ≡ first_refusal (xs ++ ys) o
+module _ {R A B : Type 0} (xs ys : List (Check R)) (x : A) (o : Result B R) where
+  pub refused_on : (n : R) → Err n ≡ first_refusal xs (Ok x) → Err n ≡ first_refusal (xs ++ ys) o
   refused_on n h = sym (checks_joined xs ys o ∙ same_refusal xs x (first_refusal ys o) n (sym h))
 
-  pub passed_on : (y : A) → given y ≡ first_refusal xs (given x) → first_refusal ys o ≡ first_refusal (xs ++ ys) o
+  pub passed_on : (y : A) → Ok y ≡ first_refusal xs (Ok x) → first_refusal ys o ≡ first_refusal (xs ++ ys) o
   passed_on y h = sym (checks_joined xs ys o ∙ all_pass xs (first_refusal ys o) (passed xs x y (sym h)))
 
 -- So something is given exactly where every check passes.
-pub given_passes : {A : Type 0} (xs : List (Check ℕ)) (x : A) {o : Result ℕ A} → o ≡ first_refusal xs (given x) → IsPlanned o ↔ Each Passes xs
-given_passes {A} xs x q = (λ p. go _ q p, λ p. subst IsPlanned (sym (q ∙ all_pass xs (given x) p)) tt)
+pub given_passes : {A : Type 0} (xs : List (Check ℕ)) (x : A) {o : Result A ℕ} → o ≡ first_refusal xs (Ok x) → IsPlanned o ↔ Each Passes xs
+given_passes {A} xs x q = (λ p. go _ q p, λ p. subst IsPlanned (sym (q ∙ all_pass xs (Ok x) p)) tt)
   where
-    go : (o : Result ℕ A) → o ≡ first_refusal xs (given x) → IsPlanned o → Each Passes xs
-    go (refused n) q h = absurd h
-    go (given y) q h = passed xs x y (sym q)
+    go : (o : Result A ℕ) → o ≡ first_refusal xs (Ok x) → IsPlanned o → Each Passes xs
+    go (Err n) q h = absurd h
+    go (Ok y) q h = passed xs x y (sym q)
 
 -- neither 0 nor above the most
 pub or_false : (x y : Bool) → (x || y) ≡ false → (x ≡ false) × (y ≡ false)
@@ -125,36 +126,32 @@ bounds_pass h = (
   (bound_passes _ h.acceleration, (bound_passes _ h.jerk, (bound_passes _ h.snap, tt))),
 )
 
--- what `undivided_in_range` answers
-pub snap_refused : (W V₀ A₀ J₀ S₀ : ℕ) (outside : Bool) → out_of_range S₀ ≡ true → refused 6 ≡ undivided_within W V₀ A₀ J₀ S₀ outside
-unfolding undivided_within
-snap_refused W V₀ A₀ J₀ S₀ outside h = (stop h).is
+-- a bound that was asked for by itself
+pub bound_passed : (n x : ℕ) → Ok tt ≡ checked (check n (out_of_range x) ∷ []) → out_of_range x ≡ false
+unfolding checked
+bound_passed n x h = (passed _ tt tt (sym h)).0
 
-pub ends_refused :
-    (W V₀ A₀ J₀ S₀ : ℕ) (outside : Bool) → out_of_range S₀ ≡ false → outside ≡ true → refused 14 ≡ undivided_within W V₀ A₀ J₀ S₀ outside
-unfolding undivided_within
-ends_refused W V₀ A₀ J₀ S₀ outside slow h = (skip slow (stop h)).is
+-- what `undivided_plan` answers after the figures that both orders read
+module _ (W V₀ A₀ J₀ S₀ : ℕ) (outside : Bool) where
+  pub snap_refused : {n : ℕ} → Err n ≡ checked (check 6 (out_of_range S₀) ∷ []) → Err n ≡ undivided_within W V₀ A₀ J₀ S₀ outside
+  unfolding checked undivided_within
+  snap_refused h = refused_on (check 6 (out_of_range S₀) ∷ []) _ tt _ _ h
 
-pub with_snap_lem : {W V₀ A₀ J₀ S₀ : ℕ} → FiguresToJerk W V₀ A₀ J₀ → out_of_range S₀ ≡ false → Figures W V₀ A₀ J₀ S₀
-with_snap_lem h slow =
-    record {
-      distance = h.distance;
-      bounds = record { velocity = h.velocity; acceleration = h.acceleration; jerk = h.jerk; snap = bound_in_range _ slow };
-    }
-
-module _
-    (W V₀ A₀ J₀ S₀ : ℕ) (outside : Bool) (slow : out_of_range S₀ ≡ false) (inside : outside ≡ false)
-    (t : Intervals) (g : IntervalsAgree 4097 W V₀ A₀ J₀ S₀ t)
-  where
-    abbrev rule : Intervals
-    rule = intervals_by W V₀ A₀ J₀ S₀
-
-    pub too_many_samples : most_samples < N t → refused 7 ≡ undivided_within W V₀ A₀ J₀ S₀ outside
+  module _ (slow : out_of_range S₀ ≡ false) where
+    pub ends_refused : outside ≡ true → Err 14 ≡ undivided_within W V₀ A₀ J₀ S₀ outside
     unfolding undivided_within
-    too_many_samples h = (skip slow (skip inside (stop (lt-ltb most_samples (N rule) (omega (arith, g.samples)))))).is
+    ends_refused h = (skip slow (stop h)).is
 
-    pub found_within : N t ≤ most_samples → given (undivided W t) ≡ undivided_within W V₀ A₀ J₀ S₀ outside
-    unfolding undivided_within
-    found_within h =
-        ap (λ (t : Intervals). given (undivided W t)) (g.same (omega arith))
-        ∙ (skip slow (skip inside (skip (le-ltb most_samples (N rule) (omega (arith, g.samples))) none_left))).is
+    module _ (inside : outside ≡ false) (t : Intervals) (g : IntervalsAgree 4097 W V₀ A₀ J₀ S₀ t) where
+      abbrev rule : Intervals
+      rule = intervals_by W V₀ A₀ J₀ S₀
+
+      pub too_many_samples : most_samples < N t → Err 7 ≡ undivided_within W V₀ A₀ J₀ S₀ outside
+      unfolding undivided_within
+      too_many_samples h = (skip slow (skip inside (stop (lt-ltb most_samples (N rule) (omega (arith, g.samples)))))).is
+
+      pub found_within : N t ≤ most_samples → Ok (undivided W t) ≡ undivided_within W V₀ A₀ J₀ S₀ outside
+      unfolding undivided_within
+      found_within h =
+          ap (λ (t : Intervals). Ok (undivided W t)) (g.same (omega arith))
+          ∙ (skip slow (skip inside (skip (le-ltb most_samples (N rule) (omega (arith, g.samples))) none_left))).is

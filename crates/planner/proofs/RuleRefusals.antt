@@ -4,7 +4,8 @@ use mathlib.Core.List.{List, [], ◌∷◌}
 use mathlib.Core.Path.{◌≡◌, sym, subst}
 use Prim.Native.Nat.{ℕ, ◌+◌, ◌-◌, ◌≤◌}
 use native.Mathlib.Omega.{arith}
-use Rattle.planner.specs.Result.{Each, refused, given, Check, check, first_refusal}
+use Rattle.planner.specs.Refusals.{Each, Check, check, first_refusal}
+use Rattle.std.specs.Prelude.{Ok, Err}
 use Rattle.planner.specs.Outcome.{checks, distance_of, intervals_of, plan_of, outcome_of}
 use Rattle.planner.specs.Third.{third_intervals_of, third_plan_of, third_checks, third_outcome_of}
 use Rattle.planner.specs.ThirdClaims.{NeverSixClaim}
@@ -17,7 +18,7 @@ abbrev pub Has : {R : Type 0} → (R → Type 0) → Check R → Type 0
 Has P (check refusal applies) = P refusal
 
 pub refusal_has :
-    {R A : Type 0} (P : R → Type 0) (xs : List (Check R)) (x : A) → Each (Has P) xs → (n : R) → first_refusal xs (given x) ≡ refused n → P n
+    {R A : Type 0} (P : R → Type 0) (xs : List (Check R)) (x : A) → Each (Has P) xs → (n : R) → first_refusal xs (Ok x) ≡ Err n → P n
 unfolding first_refusal
 refusal_has P [] x h n e = absurd (clash cc)
 refusal_has P (check refusal true ∷ xs) x h n e = subst P (same_refused e) h.0
@@ -27,7 +28,7 @@ refusal_has P (check refusal false ∷ xs) x h n e = refusal_has P xs x h.1 n e
 abbrev pub Between : (least most n : ℕ) → Type 0
 Between least most n = (least ≤ n) × (n ≤ most)
 
-pub refused_most : (m : Move) (n : ℕ) → outcome_of m ≡ refused n → Between 1 14 n
+pub refused_most : (m : Move) (n : ℕ) → outcome_of m ≡ Err n → Between 1 14 n
 unfolding outcome_of
 refused_most m = refusal_has (Between 1 14) (checks m) (plan_of (distance_of m) (intervals_of m)) (omega arith)
 
@@ -38,7 +39,7 @@ OtherThanSix n = (1 ≤ n) × (1 ≤ n - 6 + (6 - n))
 pub third_checks_other : (m : Move) → Each (Has OtherThanSix) (third_checks m)
 third_checks_other m = omega arith
 
-pub third_not_six : (m : Move) (n : ℕ) → third_outcome_of m ≡ refused n → OtherThanSix n
+pub third_not_six : (m : Move) (n : ℕ) → third_outcome_of m ≡ Err n → OtherThanSix n
 unfolding third_outcome_of
 third_not_six m = refusal_has OtherThanSix (third_checks m) (third_plan_of (distance_of m) (third_intervals_of m)) (third_checks_other m)
 

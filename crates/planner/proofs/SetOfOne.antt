@@ -7,7 +7,8 @@ use native.Mathlib.Omega.{arith}
 use borrow.Author.Tests.{ne_eqb}
 use lib.Dec.{ltb}
 use Rattle.planner.specs.Intervals.{Intervals, N}
-use Rattle.planner.specs.Result.{Result, refused, given, Check, check, first_refusal, padded}
+use Rattle.planner.specs.Refusals.{Check, check, first_refusal, padded}
+use Rattle.std.specs.Prelude.{Result, Ok, Err}
 use Rattle.planner.specs.Outcome.{most_samples, out_of_span, span_check, distance_of, intervals_of, samples_of, bound_checks, plan_of, outcome_of, intervals_in, Plans}
 use Rattle.planner.specs.Claims.{Accepted}
 use Rattle.planner.specs.Axes.{most_axes, raised, rest_plan, at_rest, axis_checks, axis_plan, all_at_rest, common_samples, checks_from, PlansAxes}
@@ -42,16 +43,16 @@ module _ (m : Move) where
   abbrev plan : Plan
   plan = plan_of (distance_of m) (intervals_of m)
 
-  rest_outcome : at_rest m ≡ true → outcome_of m ≡ refused 1
+  rest_outcome : at_rest m ≡ true → outcome_of m ≡ Err 1
   unfolding outcome_of
   rest_outcome q = sym (stop q).is
 
   module _ (q : at_rest m ≡ false) where
-    same_checks : first_refusal (axis_checks m) (given plan) ≡ outcome_of m
+    same_checks : first_refusal (axis_checks m) (Ok plan) ≡ outcome_of m
     unfolding outcome_of
-    same_checks = ap (λ (xs : List (Check ℕ)). first_refusal xs (given plan)) (chosen _ _ q)
+    same_checks = ap (λ (xs : List (Check ℕ)). first_refusal xs (Ok plan)) (chosen _ _ q)
 
-    of_an_axis : (n : ℕ) → outcome_of m ≡ refused n → OtherThanNine n
+    of_an_axis : (n : ℕ) → outcome_of m ≡ Err n → OtherThanNine n
     unfolding outcome_of
     of_an_axis n h =
         refusal_has OtherThanNine (check 2 (out_of_span m.displacement) ∷ bound_checks m.velocity m.acceleration
@@ -71,34 +72,34 @@ module _ (m : Move) where
 
 -- the set
 module _ (m : Move) (others : List Move) where
-  abbrev Alone : Result ℕ Plan → Type 0
+  abbrev Alone : Result Plan ℕ → Type 0
   Alone o = PlansAxes 1 (m ∷ others) (outcome_of_one (λ x. N (intervals_in x)) o) (places_of_one rest_plan o)
 
-  rest_alone : at_rest m ≡ true → Alone (refused 1)
+  rest_alone : at_rest m ≡ true → Alone (Err 1)
   unfolding all_at_rest
-  rest_alone q = plans_refused 1 (m ∷ others) (rest_refused 1 (m ∷ others) refl (rw q refl))
+  rest_alone q = plans_refused 1 (m ∷ others) (rest_refused 1 (m ∷ others) (omega arith) (omega arith) (rw q refl))
 
   module _ (q : at_rest m ≡ false) where
     moves : all_at_rest (m ∷ []) ≡ false
     moves = not_all_rest (m ∷ []) 0 (omega arith) (rest_moving m q)
 
-    refused_alone : (n : ℕ) → outcome_of m ≡ refused n → Alone (refused n)
+    refused_alone : (n : ℕ) → outcome_of m ≡ Err n → Alone (Err n)
     unfolding checks_from
     refused_alone n h =
         plans_refused 1 (m ∷ others)
-        (ap (λ (p : ℕ). refused (n, p)) (place n (of_an_axis m q n h))
-        ∙ axes_result_lem 1 (m ∷ others) refl moves (sym (placed_refused 1 [] _ (axis_checks m) (plan m) n (same_checks m q ∙ h))))
+        (ap (λ (p : ℕ). Err (n, p)) (place n (of_an_axis m q n h))
+        ∙ axes_result_lem 1 (m ∷ others) (omega arith) (omega arith) moves (sym (placed_refused 1 [] _ (axis_checks m) (plan m) n (same_checks m q ∙ h))))
 
-    given_alone : Accepted m → Alone (given (plan m))
+    given_alone : Accepted m → Alone (Ok (plan m))
     given_alone k =
         plans_given 1 (m ∷ others)
-        (ap given (own_common m q) ∙ sym (axes_given 1 (m ∷ others) refl moves (accepted_axis m q k, tt)))
+        (ap Ok (own_common m q) ∙ sym (axes_given 1 (m ∷ others) refl moves (accepted_axis m q k, tt)))
         (own_common m q)
         (ap (λ (x : Plan). padded most_axes rest_plan (x ∷ [])) (not_raised m q))
 
-    moving_alone : (o : Result ℕ Plan) → Plans m o → Alone o
-    moving_alone (refused n) h = refused_alone n (sym h.outcome_is)
-    moving_alone (given x) h =
+    moving_alone : (o : Result Plan ℕ) → Plans m o → Alone o
+    moving_alone (Err n) h = refused_alone n (sym h.outcome_is)
+    moving_alone (Ok x) h =
         let k = (acceptance m _ h).0 tt in
         subst Alone (sym (h.outcome_is ∙ accepted_outcome m k)) (given_alone k)
 

@@ -5,19 +5,12 @@ use lib.ListN.{length-set, drop_of_length-le}
 use mathlib.Core.List.{append-nil}
 use lib.Seq.{take_all}
 use Rattle.planner.proofs.ReachLaws.{pow_one, pow_two, pow_three}
-use Rattle.planner.proofs.RefusalLaws.{bound_in_range, with_snap_lem}
-use Rattle.planner.proofs.CountedLaws.{counted_at, counted_length, within}
-use Rattle.planner.proofs.AxesLaws.{rest_next, rest_stop, rest_none}
 use Rattle.planner.proofs.EachLaws.{each_at}
 use Rattle.planner.proofs.PaddedLaws.{mapped_at, mapped_next}
 use Rattle.planner.proofs.UndividedAnswers.{found_divisible, found_outcome, refused_outcome}
 use Rattle.planner.proofs.AxisLaws.{moving_is, resting_refused, resting_outside, resting_found}
 
 pub ruleset pow_set = (pow-zero, pow_one, pow_two, pow_three)
-
-pub ruleset within_set = (bound_in_range, with_snap_lem)
-
-pub ruleset rest_set = (counted_at, counted_length, within, rest_next, rest_stop, rest_none, drop_of_length-le)
 
 pub ruleset raise_set = (each_at, mapped_at, mapped_next, length-set, drop_of_length-le, append-nil, take_all)
 

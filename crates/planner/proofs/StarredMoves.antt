@@ -8,7 +8,8 @@ use Rattle.planner.specs.Quantities.{distance, units_per_count as G}
 use Rattle.planner.specs.Least.{first_from, least}
 use Rattle.planner.specs.Intervals.{interval_a, interval_b, interval_c, interval_e, a, J₁, b, A₁, c, V₁, e}
 use Rattle.planner.specs.Outcome.{intervals_of, samples_of, outcome_of}
-use Rattle.planner.specs.Result.{Each, Result, refused, given, first_refusal}
+use Rattle.planner.specs.Refusals.{Each, first_refusal}
+use Rattle.std.specs.Prelude.{Result, Ok, Err}
 use Rattle.planner.specs.Claims.{Accepted, IsPlanned}
 use Rattle.planner.specs.Third.{third_interval_b, third_intervals_of, third_samples_of}
 use Rattle.planner.specs.ThirdClaims.{ThirdAccepted}
@@ -27,10 +28,10 @@ abbrev HasPlan : Columns → Type 0
 HasPlan (refusal number) = ⊥
 HasPlan (columns p q r s N D short) = Unit {0}
 
-row_planned : (o : Result ℕ Plan) (x : Columns) → shown o ≡ x → HasPlan x → IsPlanned o
+row_planned : (o : Result Plan ℕ) (x : Columns) → shown o ≡ x → HasPlan x → IsPlanned o
 row_planned o (refusal number) h k = absurd k
-row_planned (refused n) (columns p q r s N D short) h k = absurd (clash cc)
-row_planned (given x) (columns p q r s N D short) h k = tt
+row_planned (Err n) (columns p q r s N D short) h k = absurd (clash cc)
+row_planned (Ok x) (columns p q r s N D short) h k = tt
 
 -- what two maps have in common, row by row
 each_row :

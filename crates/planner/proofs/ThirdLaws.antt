@@ -8,7 +8,7 @@ use native.Mathlib.Omega.{arith}
 use borrow.Author.Tests.{lt-ltb, le-ltb}
 use Rattle.planner.specs.Least.{least}
 use Rattle.planner.specs.Intervals.{interval_b, A₁, c, V₁, e, Intervals}
-use Rattle.planner.specs.Result.{refused, given}
+use Rattle.std.specs.Prelude.{Ok, Err}
 use Rattle.planner.specs.Outcome.{most_samples}
 use Rattle.planner.specs.Third.{ThirdIntervals, third_interval_b, third_intervals_by, N₃, P₃, jerk_size, third_plan_of}
 use Rattle.planner.specs.Inner.Capped.{later_by, LaterAgree}
@@ -93,7 +93,7 @@ module _ {t : ThirdIntervals} (o : ThirdOrdered t) where
       omega (arith, squares, product, mul_assoc 4 (t.b * t.c) t.e, mul_assoc u u t.e)
 
 -- what `third_in_range` answers: refusal 14
-pub third_ends_refused : (W V₀ A₀ J₀ : ℕ) (outside : Bool) → outside ≡ true → refused 14 ≡ third_within W V₀ A₀ J₀ outside
+pub third_ends_refused : (W V₀ A₀ J₀ : ℕ) (outside : Bool) → outside ≡ true → Err 14 ≡ third_within W V₀ A₀ J₀ outside
 unfolding third_within
 third_ends_refused W V₀ A₀ J₀ outside h = (stop h).is
 
@@ -108,12 +108,12 @@ module _ (W V₀ A₀ J₀ : ℕ) (outside : Bool) (inside : outside ≡ false) 
   same_samples : min 4097 (N₃ (three t)) ≡ min 4097 (N₃ (third_intervals_by W V₀ A₀ J₀))
   same_samples = omega (arith, g.samples, g.first, ap N₃ three_are)
 
-  pub third_too_many : most_samples < N₃ (three t) → refused 7 ≡ third_within W V₀ A₀ J₀ outside
+  pub third_too_many : most_samples < N₃ (three t) → Err 7 ≡ third_within W V₀ A₀ J₀ outside
   unfolding third_within
   third_too_many h = (skip inside (stop (lt-ltb most_samples (N₃ (third_intervals_by W V₀ A₀ J₀)) (omega (arith, same_samples))))).is
 
-  pub third_found : N₃ (three t) ≤ most_samples → given (third_plan_of W (three t)) ≡ third_within W V₀ A₀ J₀ outside
+  pub third_found : N₃ (three t) ≤ most_samples → Ok (third_plan_of W (three t)) ≡ third_within W V₀ A₀ J₀ outside
   unfolding third_within
   third_found h =
-      ap (λ (t : ThirdIntervals). given (third_plan_of W t)) (ap three (g.same (omega (arith, g.first))) ∙ three_are)
+      ap (λ (t : ThirdIntervals). Ok (third_plan_of W t)) (ap three (g.same (omega (arith, g.first))) ∙ three_are)
       ∙ (skip inside (skip (le-ltb most_samples (N₃ (third_intervals_by W V₀ A₀ J₀)) (omega (arith, same_samples))) none_left)).is

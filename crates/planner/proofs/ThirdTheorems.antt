@@ -5,33 +5,28 @@ use Prim.Native.Nat.{ℕ}
 use native.Mathlib.Nat.{le_refl}
 use native.Mathlib.Omega.{arith}
 use lib.Dec.{ltb}
-use Rattle.planner.specs.Result.{Result, refused, given, Check, check}
-use Rattle.planner.specs.Outcome.{most_samples, ends_outside, span_check, distance_of, number}
+use Rattle.planner.specs.Refusals.{Check, check}
+use Rattle.std.specs.Prelude.{Result, Ok, Err}
+use Rattle.planner.specs.Outcome.{most_samples, ends_outside, span_check, distance_of}
 use Rattle.planner.specs.Order.{rank}
-use Rattle.planner.specs.Third.{third_intervals_of, third_samples_of, third_plan_of, third_outcome_of, PlansThird, third_outcome}
+use Rattle.planner.specs.Third.{third_intervals_of, third_samples_of, third_plan_of, third_outcome_of, PlansThird}
 use Rattle.planner.specs.ThirdClaims.{ThirdAccepted, OneThirdAnswerClaim, ThirdPlanOrderClaim, SnapUnreadClaim, ThirdIntervalClaim}
 use Rattle.planner.specs.Inner.Capped.{FiguresToJerk}
 use Rattle.planner.specs.Inner.ThirdWithin.{third_within}
+use Rattle.planner.specs.Inner.Undivided.{FiguresOf}
 use Rattle.planner.specs.Inner.ThirdFacts.{ThirdOrdered, ThirdFacts}
 use Rattle.planner.specs.declared.Move.{Move}
 use Rattle.planner.specs.declared.ThirdPlan.{ThirdPlan}
-use Rattle.planner.specs.declared.ThirdAnswer.{ThirdAnswer}
-use Rattle.planner.specs.declared.ThirdAnswer.TheVariants.{Planned, Refused}
-use Rattle.planner.proofs.ResultLaws.{refused_or_given, same_refused, same_given}
+use Rattle.planner.specs.declared.figures.Figures.{Figures}
+use Rattle.planner.proofs.ResultLaws.{same_given}
 use Rattle.planner.proofs.FiguresChecks.{near_distance, figures_of, figures_refused, figures_passed, measured}
 use Rattle.planner.proofs.Acceptance.{third_acceptance, third_accepted_outcome}
-use Rattle.planner.proofs.AnswerLaws.{number_injective}
+use Rattle.planner.proofs.AnswerLaws.{outcome_injective}
 use Rattle.planner.proofs.PlannedFacts.{whole, below}
 use Rattle.planner.proofs.ThirdLaws.{base_b, third_ordered, third_keeps_bounds, third_positive, third_product}
 
-third_injective : (x y : ThirdAnswer) → third_outcome x ≡ third_outcome y → x ≡ y
-third_injective (Planned x) (Planned y) h = ap Planned (same_given h)
-third_injective (Planned x) (Refused y) h = absurd (refused_or_given (number y) x (sym h))
-third_injective (Refused x) (Planned y) h = absurd (refused_or_given (number x) y h)
-third_injective (Refused x) (Refused y) h = ap Refused (number_injective x y (same_refused h))
-
 pub one_third_answer : OneThirdAnswerClaim
-one_third_answer m x y h l = third_injective x y (h.outcome_is ∙ sym l.outcome_is)
+one_third_answer m x y h l = outcome_injective x y (h.outcome_is ∙ sym l.outcome_is)
 
 pub third_plan_order : ThirdPlanOrderClaim
 unfolding rank
@@ -74,31 +69,27 @@ third_interval_claim m =
     }
 
 module _ {m : Move} where
-  pub third_facts : {x : ThirdPlan} → PlansThird m (given x) → ThirdFacts m x
+  pub third_facts : {x : ThirdPlan} → PlansThird m (Ok x) → ThirdFacts m x
   third_facts h =
       let k = (third_acceptance m _ h).0 tt in
       subst (ThirdFacts m) (sym (same_given (h.outcome_is ∙ third_accepted_outcome m k))) (third_rule_facts m k)
-
-  -- the same for an answer that was taken apart
-  pub third_answer_facts : {r : ThirdAnswer} {x : ThirdPlan} → PlansThird m (third_outcome r) → r ≡ Planned x → ThirdFacts m x
-  third_answer_facts h q = third_facts (subst (λ (r : ThirdAnswer). PlansThird m (third_outcome r)) q h)
 
 -- what `plan_third` answers
 module _ (m : Move) where
   abbrev last : List (Check ℕ)
   last = span_check m.displacement m.start ∷ check 7 (ltb most_samples (third_samples_of m)) ∷ []
 
-  pub third_figures_refused : (n : ℕ) → refused n ≡ figures_of m → refused n ≡ third_outcome_of m
+  pub third_figures_refused : (n : ℕ) → Err n ≡ figures_of m → Err n ≡ third_outcome_of m
   unfolding third_outcome_of
   third_figures_refused n h = figures_refused m last _ n h
 
   pub third_figures_given :
-      {W : ℕ} {o : Result ℕ ThirdPlan}
-      → given W ≡ figures_of m
-      → o ≡ third_within W m.velocity m.acceleration m.jerk (ends_outside m.displacement m.start)
+      {f : Figures} {o : Result ThirdPlan ℕ}
+      → FiguresOf m f
+      → o ≡ third_within f.distance f.velocity f.acceleration f.jerk (ends_outside m.displacement m.start)
       → o ≡ third_outcome_of m
   unfolding third_within third_outcome_of third_samples_of third_intervals_of
-  third_figures_given h q =
-      q
-      ∙ ap (λ (W : ℕ). third_within W m.velocity m.acceleration m.jerk (ends_outside m.displacement m.start)) (measured m h)
-      ∙ figures_passed m last _ h
+  third_figures_given f q =
+      rw (f.velocity_is, f.acceleration_is, f.jerk_is) at q
+      ∙ ap (λ (W : ℕ). third_within W m.velocity m.acceleration m.jerk (ends_outside m.displacement m.start)) (measured m f.distance_is)
+      ∙ figures_passed m last _ f.distance_is

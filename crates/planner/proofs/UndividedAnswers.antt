@@ -4,11 +4,13 @@ use mathlib.Core.List.{List, [], ◌∷◌}
 use mathlib.Core.Path.{◌≡◌, sym, ap, subst, ◌∙◌}
 use Prim.Native.Nat.{ℕ}
 use lib.Dec.{ltb}
-use Rattle.planner.specs.Result.{Result, refused, given, Check, check}
+use Rattle.planner.specs.Refusals.{Check, check}
+use Rattle.std.specs.Prelude.{Result, Ok, Err}
 use Rattle.planner.specs.Outcome.{most_samples, out_of_range, ends_outside, span_check, checks, distance_of, intervals_of, intervals_in, samples_of, plan_of, outcome_of}
 use Rattle.planner.specs.Claims.{Accepted}
-use Rattle.planner.specs.Inner.Undivided.{undivided, undivided_result, undivided_within, Divisible}
+use Rattle.planner.specs.Inner.Undivided.{undivided, undivided_result, undivided_within, Divisible, FiguresOf}
 use Rattle.planner.specs.declared.Move.{Move}
+use Rattle.planner.specs.declared.figures.Figures.{Figures}
 use Rattle.planner.specs.declared.Plan.{Plan}
 use Rattle.planner.proofs.RefusalLaws.{passed, passed_same, same_refusal}
 use Rattle.planner.proofs.FiguresChecks.{figures_of, figures_refused, figures_passed, measured}
@@ -23,21 +25,22 @@ module _ (m : Move) where
   abbrev outside : Bool
   outside = ends_outside m.displacement m.start
 
-  pub undivided_refused : (n : ℕ) → refused n ≡ figures_of m → refused n ≡ undivided_result m
+  pub undivided_refused : (n : ℕ) → Err n ≡ figures_of m → Err n ≡ undivided_result m
   unfolding undivided_result
   undivided_refused n h = figures_refused m last _ n h
 
   pub undivided_given :
-      {W : ℕ} {o : Result ℕ Plan}
-      → given W ≡ figures_of m
-      → o ≡ undivided_within W m.velocity m.acceleration m.jerk m.snap outside
+      {f : Figures} {o : Result Plan ℕ}
+      → FiguresOf m f
+      → o ≡ undivided_within f.distance f.velocity f.acceleration f.jerk m.snap outside
       → o ≡ undivided_result m
   unfolding undivided_within undivided_result intervals_of samples_of
-  undivided_given h q =
-      q ∙ ap (λ (W : ℕ). undivided_within W m.velocity m.acceleration m.jerk m.snap outside) (measured m h)
-      ∙ figures_passed m last _ h
+  undivided_given f q =
+      rw (f.velocity_is, f.acceleration_is, f.jerk_is) at q
+      ∙ ap (λ (W : ℕ). undivided_within W m.velocity m.acceleration m.jerk m.snap outside) (measured m f.distance_is)
+      ∙ figures_passed m last _ f.distance_is
 
-  module _ {x : Plan} (h : given x ≡ undivided_result m) where
+  module _ {x : Plan} (h : Ok x ≡ undivided_result m) where
     found_is : x ≡ undivided (distance_of m) (intervals_of m)
     unfolding undivided_result
     found_is = sym (passed_same (checks m) _ _ (sym h))
@@ -50,9 +53,9 @@ module _ (m : Move) where
     unfolding samples_of
     found_divisible = subst Divisible (sym found_is) (record { ordered = rule_ordered m; samples = found_accepted.short_enough })
 
-    pub found_outcome : given (plan_of x.shortfall (intervals_in x)) ≡ outcome_of m
-    found_outcome = ap (λ (x : Plan). given (plan_of x.shortfall (intervals_in x))) found_is ∙ sym (accepted_outcome m found_accepted)
+    pub found_outcome : Ok (plan_of x.shortfall (intervals_in x)) ≡ outcome_of m
+    found_outcome = ap (λ (x : Plan). Ok (plan_of x.shortfall (intervals_in x))) found_is ∙ sym (accepted_outcome m found_accepted)
 
-  pub refused_outcome : (n : ℕ) → refused n ≡ undivided_result m → refused n ≡ outcome_of m
+  pub refused_outcome : (n : ℕ) → Err n ≡ undivided_result m → Err n ≡ outcome_of m
   unfolding undivided_result outcome_of
   refused_outcome n h = sym (same_refusal (checks m) _ _ n (sym h))

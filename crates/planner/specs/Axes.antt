@@ -1,12 +1,13 @@
 -- Document 02, request 1, "Rail, lift and gripper arrive together": one to eight axes, each with its own move.
-use Rattle.std.specs.Prelude.{Bool, true, ◌||◌, ◌&&◌, cond, List, [], ◌∷◌, ◌++◌, map, ◌≡◌, ℕ, suc, ◌+◌, ◌-◌, max, eqb, ltb, nat_abs, take, replicate}
+use Rattle.std.specs.Prelude.{Bool, true, ◌||◌, ◌&&◌, cond, List, [], ◌∷◌, ◌++◌, map, ◌≡◌, ℕ, suc, ◌+◌, ◌-◌, max, eqb, ltb, nat_abs, take, replicate, Result, Ok, Err}
 use Rattle.planner.specs.Intervals.{Intervals, N}
-use Rattle.planner.specs.Result.{Result, refused, given, Check, check, first_refusal, padded}
+use Rattle.planner.specs.Refusals.{Check, check, first_refusal, padded}
 use Rattle.planner.specs.Outcome.{distance_of, intervals_of, samples_of, bound_checks, span_check, checks, plan_of, number}
 use Rattle.planner.specs.declared.Move.{Move}
 use Rattle.planner.specs.declared.Plan.{Plan}
-use Rattle.planner.specs.declared.AxesAnswer.{AxesAnswer}
-use Rattle.planner.specs.declared.AxesAnswer.TheVariants.{Planned, Refused}
+use Rattle.planner.specs.declared.Refusal.{Refusal}
+use Rattle.planner.specs.declared.AxesPlan.{AxesPlan}
+use Rattle.planner.specs.declared.AxisRefusal.{AxisRefusal}
 
 abbrev pub most_axes : ℕ
 most_axes = 8
@@ -73,20 +74,25 @@ module _ (count : ℕ) (moves : List Move) where
       ∷ checks_from 1 counted
 
   -- The common N, or the refusal.
-  unfoldable pub axes_result : Result (ℕ × ℕ) ℕ
-  axes_result = first_refusal axes_checks (given (common_samples counted))
+  unfoldable pub axes_result : Result ℕ (ℕ × ℕ)
+  axes_result = first_refusal axes_checks (Ok (common_samples counted))
 
   -- Eight places: a row for each axis of the set, and zeros in the others; zeros in all at a refusal.
-  abbrev pub axes_places : {O A : Type 0} (zeros : A) (row : Move → A) → Result (ℕ × ℕ) O → List A
-  axes_places zeros row (refused x) = replicate most_axes zeros
-  axes_places zeros row (given x) = padded most_axes zeros (map row counted)
+  abbrev pub axes_places : {O A : Type 0} (zeros : A) (row : Move → A) → Result O (ℕ × ℕ) → List A
+  axes_places zeros row (Err x) = replicate most_axes zeros
+  axes_places zeros row (Ok x) = padded most_axes zeros (map row counted)
 
   -- What the planner of a set promises of the outcome of its answer, and of the plans beside it.
-  pub record PlansAxes (o : Result (ℕ × ℕ) ℕ) (plans : List Plan) : Type 0 where
+  pub record PlansAxes (o : Result ℕ (ℕ × ℕ)) (plans : List Plan) : Type 0 where
     pub outcome_is : o ≡ axes_result
     pub plans_are : plans ≡ axes_places rest_plan (λ m. axis_plan m (common_samples counted)) axes_result
 
 -- Every field of every case is read.
-abbrev pub axes_outcome : AxesAnswer → Result (ℕ × ℕ) ℕ
-axes_outcome (Planned samples) = given samples
-axes_outcome (Refused place x) = refused (number x, place)
+abbrev pub axes_outcome : Result AxesPlan (AxisRefusal Refusal) → Result ℕ (ℕ × ℕ)
+axes_outcome (Ok x) = Ok x.samples
+axes_outcome (Err x) = Err (number x.refusal, x.place)
+
+-- The plans of an answer: none at a refusal, so zeros in all places.
+abbrev pub axes_plans : Result AxesPlan (AxisRefusal Refusal) → List Plan
+axes_plans (Ok x) = x.plans
+axes_plans (Err x) = replicate most_axes rest_plan

@@ -2,16 +2,18 @@
 -- why and where it is refused (`axes_refused`); that the promise leaves one answer (`one_axes_answer`), and reads the counted moves alone
 -- (`counted_alone`); that the checks of an axis rise (`axis_order`); what the common duration is (`common_duration`);
 -- and that a move alone is the set of one (`set_of_one`).
-use Rattle.std.specs.Prelude.{◌||◌, cond, List, [], ◌∷◌, ◌↔◌, ◌≡◌, ℕ, suc, ◌≤◌, ◌<◌, eqb, pos, nat_abs, length, get_or, take}
+use Rattle.std.specs.Prelude.{◌||◌, cond, List, [], ◌∷◌, ◌↔◌, ◌≡◌, ℕ, suc, ◌≤◌, ◌<◌, eqb, pos, nat_abs, length, get_or, take, Result, Ok, Err}
 use Rattle.planner.specs.Intervals.{N}
-use Rattle.planner.specs.Result.{Result, refused, given, padded}
+use Rattle.planner.specs.Refusals.{padded}
 use Rattle.planner.specs.Order.{FirstToApply, Rising}
 use Rattle.planner.specs.Outcome.{samples_of, intervals_in, Plans}
 use Rattle.planner.specs.Claims.{BoundsInRange, EndsInSpan, Accepted, IsPlanned}
-use Rattle.planner.specs.Axes.{most_axes, rest_plan, axis_checks, PlansAxes, axes_outcome}
+use Rattle.planner.specs.Axes.{most_axes, rest_plan, axis_checks, PlansAxes, axes_outcome, axes_plans}
 use Rattle.planner.specs.declared.Move.{Move}
 use Rattle.planner.specs.declared.Plan.{Plan}
+use Rattle.planner.specs.declared.Refusal.{Refusal}
 use Rattle.planner.specs.declared.AxesPlan.{AxesPlan}
+use Rattle.planner.specs.declared.AxisRefusal.{AxisRefusal}
 
 abbrev pub Moving : Move → Type 0
 Moving m = 1 ≤ nat_abs m.displacement
@@ -48,7 +50,7 @@ module _ (count : ℕ) (moves : List Move) where
   abbrev pub AxesAcceptanceClaim : Type 0
   AxesAcceptanceClaim =
       length moves ≡ most_axes
-      → (o : Result (ℕ × ℕ) ℕ) (plans : List Plan) → PlansAxes count moves o plans → IsPlanned o ↔ AcceptedAxes count moves
+      → (o : Result ℕ (ℕ × ℕ)) (plans : List Plan) → PlansAxes count moves o plans → IsPlanned o ↔ AcceptedAxes count moves
 
   -- Why a set is refused, with this number and this place.
   pub data Reason : (number place : ℕ) → Type 0 where
@@ -64,22 +66,22 @@ module _ (count : ℕ) (moves : List Move) where
   abbrev pub AxesRefusedClaim : Type 0
   AxesRefusedClaim =
       length moves ≡ most_axes
-      → (o : Result (ℕ × ℕ) ℕ) (plans : List Plan) → PlansAxes count moves o plans
-      → (number place : ℕ) → (o ≡ refused (number, place)) ↔ Reason number place
+      → (o : Result ℕ (ℕ × ℕ)) (plans : List Plan) → PlansAxes count moves o plans
+      → (number place : ℕ) → (o ≡ Err (number, place)) ↔ Reason number place
 
   -- The promise leaves one answer, in every place.
   abbrev pub OneAxesAnswerClaim : Type 0
   OneAxesAnswerClaim =
-      (x y : AxesPlan)
-      → PlansAxes count moves (axes_outcome x.answer) x.plans
-      → PlansAxes count moves (axes_outcome y.answer) y.plans
+      (x y : Result AxesPlan (AxisRefusal Refusal))
+      → PlansAxes count moves (axes_outcome x) (axes_plans x)
+      → PlansAxes count moves (axes_outcome y) (axes_plans y)
       → x ≡ y
 
   -- Only the first `count` moves are read.
   abbrev pub CountedAloneClaim : Type 0
   CountedAloneClaim =
       (others : List Move) → take count moves ≡ take count others
-      → (o : Result (ℕ × ℕ) ℕ) (plans : List Plan) → PlansAxes count moves o plans → PlansAxes count others o plans
+      → (o : Result ℕ (ℕ × ℕ)) (plans : List Plan) → PlansAxes count moves o plans → PlansAxes count others o plans
 
   -- "The common duration is the largest N": some moving axis's own, and none needs more; and every moving axis is planned to end there.
   pub record CommonDuration (plans : List Plan) (n : ℕ) : Type 0 where
@@ -93,7 +95,7 @@ module _ (count : ℕ) (moves : List Move) where
   abbrev pub CommonDurationClaim : Type 0
   CommonDurationClaim =
       length moves ≡ most_axes
-      → (n : ℕ) (plans : List Plan) → PlansAxes count moves (given n) plans → CommonDuration plans n
+      → (n : ℕ) (plans : List Plan) → PlansAxes count moves (Ok n) plans → CommonDuration plans n
 
 -- The checks of an axis rise, so that it is refused with "its own lowest number", where 14 stands between 6 and 7 (`lowest_given`).
 abbrev pub AxisOrderClaim : Type 0
@@ -104,15 +106,15 @@ AxisOrderClaim = (m : Move) → Rising (axis_checks m)
 abbrev pub place_of_one : (number : ℕ) → ℕ
 place_of_one number = cond (eqb number 1 || eqb number 9) 0 1
 
-abbrev pub outcome_of_one : {A O : Type 0} → (A → O) → Result ℕ A → Result (ℕ × ℕ) O
-outcome_of_one f (refused number) = refused (number, place_of_one number)
-outcome_of_one f (given x) = given (f x)
+abbrev pub outcome_of_one : {A O : Type 0} → (A → O) → Result A ℕ → Result O (ℕ × ℕ)
+outcome_of_one f (Err number) = Err (number, place_of_one number)
+outcome_of_one f (Ok x) = Ok (f x)
 
-abbrev pub places_of_one : {A : Type 0} (zeros : A) → Result ℕ A → List A
-places_of_one zeros (refused number) = padded most_axes zeros []
-places_of_one zeros (given x) = padded most_axes zeros (x ∷ [])
+abbrev pub places_of_one : {A : Type 0} (zeros : A) → Result A ℕ → List A
+places_of_one zeros (Err number) = padded most_axes zeros []
+places_of_one zeros (Ok x) = padded most_axes zeros (x ∷ [])
 
 abbrev pub SetOfOneClaim : Type 0
 SetOfOneClaim =
-    (m : Move) (others : List Move) (o : Result ℕ Plan) → Plans m o
+    (m : Move) (others : List Move) (o : Result Plan ℕ) → Plans m o
     → PlansAxes 1 (m ∷ others) (outcome_of_one (λ x. N (intervals_in x)) o) (places_of_one rest_plan o)

@@ -1,12 +1,11 @@
 -- What the theorems `acceptance` (demand 2), `one_plan_answer`, `mirror`, `least_is` and `interval_claim` say of the rules.
-use Rattle.std.specs.Prelude.{◌↔◌, ◌≡◌, ℕ, ◌+◌, ◌*◌, ◌^◌, ◌≤◌, ℤ, nat_abs, neg_ℤ, ◌+ℤ◌}
+use Rattle.std.specs.Prelude.{◌↔◌, ◌≡◌, ℕ, ◌+◌, ◌*◌, ◌^◌, ◌≤◌, ℤ, nat_abs, neg_ℤ, ◌+ℤ◌, Result, Ok, Err}
 use Rattle.planner.specs.Least.{least, IsLeast}
 use Rattle.planner.specs.Intervals.{p, q, r, s, N, P, J₁, A₁, V₁, from_b}
-use Rattle.planner.specs.Result.{Result, refused, given}
 use Rattle.planner.specs.Outcome.{most_samples, most_counts, most_bound, distance_of, intervals_of, samples_of, Plans, outcome}
 use Rattle.planner.specs.declared.Move.{Move}
 use Rattle.planner.specs.declared.Plan.{Plan}
-use Rattle.planner.specs.declared.PlanAnswer.{PlanAnswer}
+use Rattle.planner.specs.declared.Refusal.{Refusal}
 
 -- A bound that may be sent.
 pub record BoundInRange (x : ℕ) : Type 0 where
@@ -41,16 +40,16 @@ pub record Accepted (m : Move) : Type 0 where
   pub short_enough : samples_of m ≤ most_samples
 
 -- The outcome is a plan, or of a set its duration: no refusal.
-abbrev pub IsPlanned : {R A : Type 0} → Result R A → Type 0
-IsPlanned (refused x) = ⊥
-IsPlanned (given x) = Unit {0}
+abbrev pub IsPlanned : {R A : Type 0} → Result A R → Type 0
+IsPlanned (Err x) = ⊥
+IsPlanned (Ok x) = Unit {0}
 
 abbrev pub AcceptanceClaim : Type 0
-AcceptanceClaim = (m : Move) (o : Result ℕ Plan) → Plans m o → IsPlanned o ↔ Accepted m
+AcceptanceClaim = (m : Move) (o : Result Plan ℕ) → Plans m o → IsPlanned o ↔ Accepted m
 
 -- The promise leaves one answer.
 abbrev pub OneAnswerClaim : Type 0
-OneAnswerClaim = (m : Move) (x y : PlanAnswer) → Plans m (outcome x) → Plans m (outcome y) → x ≡ y
+OneAnswerClaim = (m : Move) (x y : Result Plan Refusal) → Plans m (outcome x) → Plans m (outcome y) → x ≡ y
 
 -- The same move the other way, as seen from the rail's zero.
 abbrev pub mirrored : Move → Move

@@ -3,7 +3,7 @@
 pub mod Quantities
 pub mod Least
 pub mod Intervals
-pub mod Result
+pub mod Refusals
 pub mod Outcome
 pub mod Order
 pub mod Axes

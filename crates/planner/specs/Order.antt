@@ -1,7 +1,7 @@
 -- Document 01, "Why a move or sheet is turned away": "Where several apply, the lowest number is given", as the theorems `first_given`,
 -- `lowest_given` and `plan_order` say it of the checks. Document 02, request 7, puts 14 among them.
-use Rattle.std.specs.Prelude.{true, false, cond, List, [], ◌∷◌, map, ◌⊎◌, ◌↔◌, ◌≡◌, ℕ, ◌*◌, ◌≤◌, ◌<◌, eqb}
-use Rattle.planner.specs.Result.{refused, given, Check, check, first_refusal, Each}
+use Rattle.std.specs.Prelude.{true, false, cond, List, [], ◌∷◌, map, ◌⊎◌, ◌↔◌, ◌≡◌, ℕ, ◌*◌, ◌≤◌, ◌<◌, eqb, Ok, Err}
+use Rattle.planner.specs.Refusals.{Check, check, first_refusal, Each}
 use Rattle.planner.specs.Outcome.{checks}
 use Rattle.planner.specs.declared.Move.{Move}
 
@@ -15,7 +15,7 @@ FirstToApply n (check refusal applies ∷ xs) = ((applies ≡ true) × (refusal 
 
 -- Of every list of checks: a refusal is given if and only if its check applies and none before it does.
 abbrev pub FirstClaim : Type 1
-FirstClaim = (R A : Type 0) (xs : List (Check R)) (x : A) (n : R) → (first_refusal xs (given x) ≡ refused n) ↔ FirstToApply n xs
+FirstClaim = (R A : Type 0) (xs : List (Check R)) (x : A) (n : R) → (first_refusal xs (Ok x) ≡ Err n) ↔ FirstToApply n xs
 
 -- The place of refusals 1 to 10 and 14 among each other: by the number, which is doubled to make room for 14, "after 6 and before 7".
 unfoldable pub rank : (number : ℕ) → ℕ
@@ -34,7 +34,7 @@ NotBelow n (check number applies) = applies ≡ true → rank n ≤ rank number
 -- Of checks that rise, as those of refusals 1 to 10 and 14 do: none that applies has a lower rank than the one that is given. That this one
 -- applies is `FirstClaim`.
 abbrev pub LowestClaim : Type 1
-LowestClaim = (A : Type 0) (xs : List (Check ℕ)) (x : A) (n : ℕ) → Rising xs → first_refusal xs (given x) ≡ refused n → Each (NotBelow n) xs
+LowestClaim = (A : Type 0) (xs : List (Check ℕ)) (x : A) (n : ℕ) → Rising xs → first_refusal xs (Ok x) ≡ Err n → Each (NotBelow n) xs
 
 -- The checks stand in the order of these numbers.
 abbrev pub InOrder : List (Check ℕ) → List ℕ → Type 0

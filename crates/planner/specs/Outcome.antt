@@ -1,15 +1,13 @@
 -- Document 01, "Why a move or sheet is turned away", refusals 1 to 7: the outcome of a move, and the planner's answer as the paper
 -- has it. Document 02, request 7: refusal 14.
-use Rattle.std.specs.Prelude.{Bool, ◌||◌, List, [], ◌∷◌, ◌++◌, ◌≡◌, ℕ, ◌^◌, eqb, ltb, ℤ, nat_abs, ◌+ℤ◌}
+use Rattle.std.specs.Prelude.{Bool, ◌||◌, List, [], ◌∷◌, ◌++◌, ◌≡◌, ℕ, ◌^◌, eqb, ltb, ℤ, nat_abs, ◌+ℤ◌, Result, Ok, Err}
 use Rattle.planner.specs.Quantities.{distance}
 use Rattle.planner.specs.Intervals.{Intervals, intervals_by, N, D, shortfall}
-use Rattle.planner.specs.Result.{Result, refused, given, Check, check, first_refusal}
+use Rattle.planner.specs.Refusals.{Check, check, first_refusal}
 use Rattle.planner.specs.declared.Move.{Move}
 use Rattle.planner.specs.declared.Plan.{Plan}
 use Rattle.planner.specs.declared.Refusal.{Refusal}
 use Rattle.planner.specs.declared.Refusal.TheVariants.{NoDisplacement, DisplacementRange, VelocityRange, AccelerationRange, JerkRange, SnapRange, TooManySamples, AxisCount, StartOrEndRange}
-use Rattle.planner.specs.declared.PlanAnswer.{PlanAnswer}
-use Rattle.planner.specs.declared.PlanAnswer.TheVariants.{Planned, Refused}
 
 -- The most samples that a move may take, and the ends of what may be sent.
 abbrev pub most_samples : ℕ
@@ -71,11 +69,11 @@ module _ (m : Move) where
       ++ (bound_checks m.velocity m.acceleration m.jerk m.snap
       ++ (span_check m.displacement m.start ∷ check 7 (ltb most_samples samples_of) ∷ []))
 
-  unfoldable pub outcome_of : Result ℕ Plan
-  outcome_of = first_refusal checks (given (plan_of distance_of intervals_of))
+  unfoldable pub outcome_of : Result Plan ℕ
+  outcome_of = first_refusal checks (Ok (plan_of distance_of intervals_of))
 
   -- What the planner promises of the outcome of its answer.
-  pub record Plans (o : Result ℕ Plan) : Type 0 where
+  pub record Plans (o : Result Plan ℕ) : Type 0 where
     pub outcome_is : o ≡ outcome_of
 
 -- Document 01's table, column "No.", and 13 and 14 of document 02, requests 1 and 7.
@@ -90,7 +88,8 @@ number TooManySamples = 7
 number AxisCount = 13
 number StartOrEndRange = 14
 
--- Every field of every case is read, so different answers have different outcomes (the theorem `outcome_injective`).
-abbrev pub outcome : PlanAnswer → Result ℕ Plan
-outcome (Planned x) = given x
-outcome (Refused x) = refused (number x)
+-- An answer of the planner as the paper has it. Every field of every case is read, so different answers have different outcomes (the theorem
+-- `outcome_injective`).
+abbrev pub outcome : {A : Type 0} → Result A Refusal → Result A ℕ
+outcome (Ok x) = Ok x
+outcome (Err x) = Err (number x)

@@ -1,8 +1,7 @@
 -- Document 01, "Moves to check by": the starred rows, column by column, and that the rules give them (`starred_moves`).
-use Rattle.std.specs.Prelude.{List, [], ◌∷◌, map, ◌≡◌, ℕ, ◌*◌, ◌^◌, pos}
+use Rattle.std.specs.Prelude.{List, [], ◌∷◌, map, ◌≡◌, ℕ, ◌*◌, ◌^◌, pos, Result, Ok, Err}
 use Rattle.planner.specs.Quantities.{units_per_count as G}
 use Rattle.planner.specs.Intervals.{p, q, r, s, N}
-use Rattle.planner.specs.Result.{Result, refused, given}
 use Rattle.planner.specs.Outcome.{intervals_in, outcome_of}
 use Rattle.planner.specs.declared.Move.{Move}
 use Rattle.planner.specs.declared.Plan.{Plan}
@@ -12,9 +11,9 @@ pub data Columns : Type 0 where
   refusal : (number : ℕ) → Columns
   columns : (p q r s N D short : ℕ) → Columns
 
-abbrev pub shown : Result ℕ Plan → Columns
-shown (refused number) = refusal number
-shown (given x) = let t = intervals_in x in columns (p t) (q t) (r t) (s t) (N t) x.snap x.shortfall
+abbrev pub shown : Result Plan ℕ → Columns
+shown (Err number) = refusal number
+shown (Ok x) = let t = intervals_in x in columns (p t) (q t) (r t) (s t) (N t) x.snap x.shortfall
 
 -- A row: what is sent, and what must come out. "S = J = G unless said", and the start is 0.
 abbrev pub row : (X V₀ A₀ : ℕ) → Columns → Move × Columns

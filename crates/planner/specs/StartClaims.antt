@@ -1,6 +1,5 @@
 -- Document 02, request 7: what the start changes in a plan, and what it does not (`start_adds`, `never_fourteen`, `one_plan`).
-use Rattle.std.specs.Prelude.{List, map, ◌↔◌, ◌≡◌, ℕ, pos, length, take}
-use Rattle.planner.specs.Result.{refused, given}
+use Rattle.std.specs.Prelude.{List, map, ◌↔◌, ◌≡◌, ℕ, pos, length, take, Ok, Err}
 use Rattle.planner.specs.Outcome.{Plans}
 use Rattle.planner.specs.Claims.{EndsInSpan, Accepted}
 use Rattle.planner.specs.Third.{PlansThird}
@@ -31,18 +30,18 @@ pub record StartAddsClaim (m : Move) : Type 0 where
 
 -- "Earlier calls and all sheets mean start 0": no plan is refused with 14 there. The other entries ask what the plan asks, and no other 14.
 pub record NeverFourteenClaim : Type 0 where
-  pub fourth : (m : Move) → Plans (from_zero m) (refused 14) → ⊥
-  pub third : (m : Move) → PlansThird (from_zero m) (refused 14) → ⊥
+  pub fourth : (m : Move) → Plans (from_zero m) (Err 14) → ⊥
+  pub third : (m : Move) → PlansThird (from_zero m) (Err 14) → ⊥
   pub axes :
       (count : ℕ) (moves : List Move) → length moves ≡ most_axes
-      → (place : ℕ) (plans : List Plan) → PlansAxes count (map from_zero moves) (refused (14, place)) plans → ⊥
+      → (place : ℕ) (plans : List Plan) → PlansAxes count (map from_zero moves) (Err (14, place)) plans → ⊥
 
 -- The plan does not depend on the start: moves that differ in it alone have one plan, where both have a plan; and so have sets.
 pub record OnePlanClaim : Type 0 where
-  pub fourth : (m n : Move) → from_zero m ≡ from_zero n → (x y : Plan) → Plans m (given x) → Plans n (given y) → x ≡ y
-  pub third : (m n : Move) → from_zero m ≡ from_zero n → (x y : ThirdPlan) → PlansThird m (given x) → PlansThird n (given y) → x ≡ y
+  pub fourth : (m n : Move) → from_zero m ≡ from_zero n → (x y : Plan) → Plans m (Ok x) → Plans n (Ok y) → x ≡ y
+  pub third : (m n : Move) → from_zero m ≡ from_zero n → (x y : ThirdPlan) → PlansThird m (Ok x) → PlansThird n (Ok y) → x ≡ y
   pub axes :
       (count : ℕ) (moves others : List Move) → map from_zero (take count moves) ≡ map from_zero (take count others)
       → (n n' : ℕ) (plans plans' : List Plan)
-      → PlansAxes count moves (given n) plans → PlansAxes count others (given n') plans'
+      → PlansAxes count moves (Ok n) plans → PlansAxes count others (Ok n') plans'
       → (n ≡ n') × (plans ≡ plans')

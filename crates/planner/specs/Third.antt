@@ -1,14 +1,12 @@
 -- Document 02, request 3, "Third-order plans for the old drives": the three intervals, the jerk and the shortfall; the refusals; the plan.
 -- The bound S on the snap is not read.
-use Rattle.std.specs.Prelude.{List, [], ◌∷◌, ◌++◌, ◌≡◌, ℕ, ◌+◌, ◌-◌, ◌*◌, ◌/◌, ◌^◌, min, ltb}
+use Rattle.std.specs.Prelude.{List, [], ◌∷◌, ◌++◌, ◌≡◌, ℕ, ◌+◌, ◌-◌, ◌*◌, ◌/◌, ◌^◌, min, ltb, Result, Ok}
 use Rattle.planner.specs.Least.{least}
 use Rattle.planner.specs.Intervals.{c, e}
-use Rattle.planner.specs.Result.{Result, refused, given, Check, check, first_refusal}
-use Rattle.planner.specs.Outcome.{most_samples, displacement_checks, bound_checks_to_jerk, span_check, distance_of, number}
+use Rattle.planner.specs.Refusals.{Check, check, first_refusal}
+use Rattle.planner.specs.Outcome.{most_samples, displacement_checks, bound_checks_to_jerk, span_check, distance_of}
 use Rattle.planner.specs.declared.Move.{Move}
 use Rattle.planner.specs.declared.ThirdPlan.{ThirdPlan}
-use Rattle.planner.specs.declared.ThirdAnswer.{ThirdAnswer}
-use Rattle.planner.specs.declared.ThirdAnswer.TheVariants.{Planned, Refused}
 
 pub record ThirdIntervals : Type 0 where
   pub b : ℕ
@@ -61,14 +59,9 @@ module _ (m : Move) where
       ++ (bound_checks_to_jerk m.velocity m.acceleration m.jerk
       ++ (span_check m.displacement m.start ∷ check 7 (ltb most_samples third_samples_of) ∷ []))
 
-  unfoldable pub third_outcome_of : Result ℕ ThirdPlan
-  third_outcome_of = first_refusal third_checks (given (third_plan_of (distance_of m) third_intervals_of))
+  unfoldable pub third_outcome_of : Result ThirdPlan ℕ
+  third_outcome_of = first_refusal third_checks (Ok (third_plan_of (distance_of m) third_intervals_of))
 
   -- What the planner promises of the outcome of its answer.
-  pub record PlansThird (o : Result ℕ ThirdPlan) : Type 0 where
+  pub record PlansThird (o : Result ThirdPlan ℕ) : Type 0 where
     pub outcome_is : o ≡ third_outcome_of
-
--- Every field of every case is read, so different answers have different outcomes (`third_injective`).
-abbrev pub third_outcome : ThirdAnswer → Result ℕ ThirdPlan
-third_outcome (Planned x) = given x
-third_outcome (Refused x) = refused (number x)

@@ -1,15 +1,14 @@
 -- Document 02, request 3: what the theorems `third_acceptance` (demand 2), `third_mirror`, `one_third_answer`, `third_plan_order`,
 -- `never_six`, `snap_unread` and `third_interval_claim` say of the rules of third-order plans.
-use Rattle.std.specs.Prelude.{[], ◌∷◌, ◌↔◌, ◌≡◌, ℕ, ◌+◌, ◌-◌, ◌*◌, ◌^◌, ◌≤◌, nat_abs}
+use Rattle.std.specs.Prelude.{[], ◌∷◌, ◌↔◌, ◌≡◌, ℕ, ◌+◌, ◌-◌, ◌*◌, ◌^◌, ◌≤◌, nat_abs, Result, Err}
 use Rattle.planner.specs.Intervals.{interval_b}
 use Rattle.planner.specs.Order.{InOrder}
-use Rattle.planner.specs.Result.{Result, refused}
-use Rattle.planner.specs.Outcome.{most_samples, distance_of}
+use Rattle.planner.specs.Outcome.{most_samples, distance_of, outcome}
 use Rattle.planner.specs.Claims.{BoundInRange, InSpan, EndsInSpan, IsPlanned, mirrored}
-use Rattle.planner.specs.Third.{N₃, P₃, third_intervals_of, third_samples_of, third_checks, PlansThird, third_outcome}
+use Rattle.planner.specs.Third.{N₃, P₃, third_intervals_of, third_samples_of, third_checks, PlansThird}
 use Rattle.planner.specs.declared.Move.{Move}
 use Rattle.planner.specs.declared.ThirdPlan.{ThirdPlan}
-use Rattle.planner.specs.declared.ThirdAnswer.{ThirdAnswer}
+use Rattle.planner.specs.declared.Refusal.{Refusal}
 
 -- The figures that are read are in range: none of refusals 1 to 5 and 14 applies.
 pub record ThirdInRange (m : Move) : Type 0 where
@@ -25,7 +24,7 @@ pub record ThirdAccepted (m : Move) : Type 0 where
   pub short_enough : third_samples_of m ≤ most_samples
 
 abbrev pub ThirdAcceptanceClaim : Type 0
-ThirdAcceptanceClaim = (m : Move) (o : Result ℕ ThirdPlan) → PlansThird m o → IsPlanned o ↔ ThirdAccepted m
+ThirdAcceptanceClaim = (m : Move) (o : Result ThirdPlan ℕ) → PlansThird m o → IsPlanned o ↔ ThirdAccepted m
 
 -- As for the fourth order.
 abbrev pub ThirdMirrorClaim : Type 0
@@ -33,7 +32,7 @@ ThirdMirrorClaim = (m : Move) → ThirdAccepted m ↔ ThirdAccepted (mirrored m)
 
 -- The promise leaves one answer.
 abbrev pub OneThirdAnswerClaim : Type 0
-OneThirdAnswerClaim = (m : Move) (x y : ThirdAnswer) → PlansThird m (third_outcome x) → PlansThird m (third_outcome y) → x ≡ y
+OneThirdAnswerClaim = (m : Move) (x y : Result ThirdPlan Refusal) → PlansThird m (outcome x) → PlansThird m (outcome y) → x ≡ y
 
 -- The checks in their order.
 abbrev pub ThirdPlanOrderClaim : Type 0
@@ -41,7 +40,7 @@ ThirdPlanOrderClaim = (m : Move) → InOrder (third_checks m) (1 ∷ 2 ∷ 3 ∷
 
 -- "refusal 6 is never given there"
 abbrev pub NeverSixClaim : Type 0
-NeverSixClaim = (m : Move) → PlansThird m (refused 6) → ⊥
+NeverSixClaim = (m : Move) → PlansThird m (Err 6) → ⊥
 
 -- The same move with another bound on the snap, whichever it is.
 abbrev pub with_snap : (S₀ : ℕ) → Move → Move
@@ -57,7 +56,7 @@ with_snap S₀ m =
 
 -- "S is not read": what is promised of a move is promised of it with every S.
 abbrev pub SnapUnreadClaim : Type 0
-SnapUnreadClaim = (m : Move) (S₀ : ℕ) (o : Result ℕ ThirdPlan) → PlansThird m o → PlansThird (with_snap S₀ m) o
+SnapUnreadClaim = (m : Move) (S₀ : ℕ) (o : Result ThirdPlan ℕ) → PlansThird m o → PlansThird (with_snap S₀ m) o
 
 module _ (m : Move) where
   -- b is what the base's rule gives for a = 0 and J1 = J; the seven segments take N samples; and where N is at most 4,096, P is at most

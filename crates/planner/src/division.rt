@@ -6,14 +6,6 @@ ghost use Rattle.planner.specs.Inner.Undivided.{Divisible};
 
 use crate::Plan;
 
-// N, the samples that a plan takes.
-pub(crate) fn samples_in(x: Plan) -> u64
-    requires { N (intervals_in x) ≤ 2 ^ 16 }
-    ensures { result ≡ N (intervals_in x) }
-{
-    x.a + x.b + x.c + x.e
-}
-
 #[derive(Clone, Copy)]
 pub(crate) struct Division {
     pub quotient: u64,
@@ -34,22 +26,25 @@ pub(crate) fn divide(w: u64, p: u64) -> Division
     }
 }
 
-// The plan of these intervals, of which all of W is still short.
-pub(crate) fn divided(x: Plan) -> Plan
-    requires { Divisible x }
-    ensures { result ≡ plan_of x.shortfall (intervals_in x) }
-{
-    let a = x.a;
-    let b = x.b;
-    let c = x.c;
-    let e = x.e;
-    let d = divide(x.shortfall, a * b * c * e);
-    Plan {
-        a,
-        b,
-        c,
-        e,
-        snap: d.quotient,
-        shortfall: d.shortfall,
+impl Plan {
+    // N, the samples that a plan takes. Not published, since no published function has a `requires`.
+    pub(crate) fn samples(&self) -> u64
+        requires { N (intervals_in self.now) ≤ 2 ^ 16 }
+        ensures { result ≡ N (intervals_in self.now) }
+    {
+        self.a + self.b + self.c + self.e
+    }
+
+    // The plan of these intervals, of which all of W is still short.
+    pub(crate) fn divided(self) -> Plan
+        requires { Divisible self }
+        ensures { result ≡ plan_of self.shortfall (intervals_in self) }
+    {
+        let d = divide(self.shortfall, self.a * self.b * self.c * self.e);
+        Plan {
+            snap: d.quotient,
+            shortfall: d.shortfall,
+            ..self
+        }
     }
 }

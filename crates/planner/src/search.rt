@@ -3,9 +3,8 @@ ghost use Rattle.std.specs.Prelude.{◌≡◌, ◌^◌, ◌≤◌, min, max};
 ghost use Rattle.planner.specs.Least.{least};
 ghost use Rattle.planner.specs.Inner.Search.{growth, scaled, LeastWithin, SearchArgs, ReachArgs};
 
-use crate::min_max::{larger, smaller};
-
-// m^d. A match is quicker here than a loop: d is the same in all turns of a search.
+// m^d. A match is quicker here than the loop of `pow`: d is the same in all turns of a search. A closure for each product would stand at all
+// ten calls and put its rising into every contract.
 #[tactic(auto, using(crate::proofs::Sets::pow_set))]
 fn power(m: u64, d: u64) -> u64
     requires { (m ≤ 2 ^ 15) × (d ≤ 3) }
@@ -20,13 +19,14 @@ fn power(m: u64, d: u64) -> u64
 }
 
 // The least n from lo to hi with n·(u+n)^d ≥ t, or hi where there is none below it. The span is
-// halved until one number is left. It need not go past t, since n·(u+n)^d is at least n.
+// halved until one number is left. It need not go past t, since n·(u+n)^d is at least n. Document 02 names the form: the loop leaves with
+// its least number.
 fn search(u: u64, d: u64, t: u64, lo: u64, hi: u64) -> u64
     requires { SearchArgs 4097 u d lo hi }
     ensures { LeastWithin t (growth u d) lo hi result }
 {
     let mut from = lo;
-    let mut to = smaller(hi, larger(lo, t));
+    let mut to = hi.min(lo.max(t));
     loop {
         if from == to {
             break from;
@@ -47,5 +47,5 @@ pub(crate) fn least_interval(k: u64, u: u64, d: u64, t: u64, lo: u64, hi: u64) -
     requires { ReachArgs 4097 k u d t lo hi }
     ensures { result ≡ max lo (min hi (least t (scaled k u d))) }
 {
-    search(u, d, (t + (k - 1)) / k, lo, hi)
+    search(u, d, t.div_ceil(k), lo, hi)
 }

@@ -1,33 +1,28 @@
-// The third-order plan of a move in range.
-ghost use Rattle.std.specs.Prelude.{◌≡◌};
-ghost use Rattle.planner.specs.Third.{third_outcome};
-ghost use Rattle.planner.specs.Inner.Capped.{FiguresToJerk};
-ghost use Rattle.planner.specs.Inner.ThirdWithin.{third_within};
+// The third-order plan of a move.
+ghost use Rattle.planner.specs.Outcome.{outcome};
+ghost use Rattle.planner.specs.Third.{PlansThird};
 
 use crate::division::divide;
+use crate::figures::Figures;
 use crate::in_range::MOST_SAMPLES;
-use crate::intervals::later_intervals;
-use crate::{Refusal, ThirdAnswer, ThirdPlan};
+use crate::intervals::Intervals;
+use crate::{Move, Refusal, ThirdPlan};
 
-// The base's later intervals with a = 0 and J1 = J; or refusal 14, where `outside` tells that it applies, or 7.
-pub(crate) fn third_in_range(w: u64, v: u64, acc: u64, j: u64, outside: bool) -> ThirdAnswer
-    requires { FiguresToJerk w v acc j }
-    ensures { third_outcome result ≡ third_within w v acc j outside }
+// Plans a move in the third order, for drives without a bound on the snap: the move's own is not read. The intervals are the base's later
+// ones with a = 0 and J1 = J. Beside `undivided_plan`, since a, the snap and refusal 6 are not there: both call the same functions for all else.
+pub fn plan_third(m: &Move) -> Result<ThirdPlan, Refusal>
+    ensures { PlansThird m.now (outcome result) }
 {
-    if outside {
-        return ThirdAnswer::Refused(Refusal::StartOrEndRange);
+    let figures = Figures::of(m)?;
+    if m.ends_outside() {
+        return Err(Refusal::StartOrEndRange);
     }
-    let t = later_intervals(w, v, acc, j, 0);
-    let b = t.b;
-    let c = t.c;
-    let e = t.e;
-    let n = b + c + e;
-    if MOST_SAMPLES < n {
-        return ThirdAnswer::Refused(Refusal::TooManySamples);
+    let Intervals { b, c, e, .. } = figures.later_intervals(figures.jerk, 0);
+    if MOST_SAMPLES < b + c + e {
+        return Err(Refusal::TooManySamples);
     }
-    let p = b * c * e;
-    let d = divide(w, p);
-    ThirdAnswer::Planned(ThirdPlan {
+    let d = divide(figures.distance, b * c * e);
+    Ok(ThirdPlan {
         b,
         c,
         e,

@@ -5,15 +5,12 @@ use mathlib.Core.Path.{◌≡◌, refl, ap, ◌∙◌, sym}
 use Prim.Native.Nat.{ℕ, ◌≤◌}
 use borrow.Author.Tests.{eq-eqb, ne_eqb, leb-true, le-leb}
 use lib.Dec.{leb}
+use Rattle.std.proofs.lemmas.Bool.{false_from_ne_true}
 use Rattle.route_sheet.specs.Inner.Reading.{parsed, failed, is_digit, digit_value, with_digit, read_digits, read_number}
 
 and_parts : (t u : Bool) → t && u ≡ true → (t ≡ true) × (u ≡ true)
 and_parts true u e = (refl, e)
 and_parts false u e = (e, cc)
-
-not_true_false : (t : Bool) → (t ≡ true → ⊥) → t ≡ false
-not_true_false true h = absurd (h refl)
-not_true_false false h = refl
 
 -- A digit with two bounds kept: the tests `begins` and `goes_on` both have this form.
 pub record Passes (b p q r s : ℕ) : Type 0 where
@@ -21,9 +18,6 @@ pub record Passes (b p q r s : ℕ) : Type 0 where
   pub to : b ≤ 57
   pub low : p ≤ q
   pub high : r ≤ s
-
-pub digit_from : (b : ℕ) → is_digit b ≡ true → 48 ≤ b
-digit_from b e = leb-true 48 b (and_parts (leb 48 b) (leb b 57) e).0
 
 module _ (b p q r s : ℕ) where
   abbrev test : Bool
@@ -40,13 +34,10 @@ module _ (b p q r s : ℕ) where
   test_true h = rw (le-leb 48 b h.from, le-leb b 57 h.to, le-leb p q h.low, le-leb r s h.high)
 
   pub test_false : (Passes b p q r s → ⊥) → test ≡ false
-  test_false h = not_true_false test (λ e. h (passes e))
+  test_false h = false_from_ne_true test (λ e. h (passes e))
 
   pub not_passes : test ≡ false → Passes b p q r s → ⊥
   not_passes e h = true≢false (sym (test_true h) ∙ e)
-
-  pub no_digit : is_digit b ≡ false → Passes b p q r s → ⊥
-  no_digit e h = true≢false (sym (rw (le-leb 48 b h.from, le-leb b 57 h.to)) ∙ e)
 
   pub decide : Dec (Passes b p q r s)
   decide = go test refl
@@ -66,7 +57,7 @@ module _ (least most end b : ℕ) (s : List ℕ) where
   unfolding read_number
   number_start h = rw (test_true b least (digit_value b) (digit_value b) most h)
 
-  pub number_stop : (Passes b least (digit_value b) (digit_value b) most → ⊥) → read_number least most end (b ∷ s) ≡ failed 0
+  pub number_stop : (Passes b least (digit_value b) (digit_value b) most → ⊥) → read_number least most end (b ∷ s) ≡ failed (b ∷ s)
   unfolding read_number
   number_stop h = rw (test_false b least (digit_value b) (digit_value b) most h)
 
@@ -81,6 +72,6 @@ module _ (most end n b : ℕ) (s : List ℕ) where
   unfolding read_digits
   digits_next e h = rw (ne_eqb b end e, test_true b 1 n (with_digit n b) most h)
 
-  pub digits_stop : (b ≡ end → ⊥) → (Passes b 1 n (with_digit n b) most → ⊥) → read_digits most end n (b ∷ s) ≡ failed 0
+  pub digits_stop : (b ≡ end → ⊥) → (Passes b 1 n (with_digit n b) most → ⊥) → read_digits most end n (b ∷ s) ≡ failed (b ∷ s)
   unfolding read_digits
   digits_stop e h = rw (ne_eqb b end e, test_false b 1 n (with_digit n b) most h)

@@ -3,9 +3,9 @@ use mathlib.Core.List.{List, [], ◌∷◌, ◌++◌}
 use mathlib.Core.Path.{◌≡◌, refl}
 use Prim.Native.Nat.{ℕ, zero, suc, ◌-◌, ◌≤◌}
 use native.Mathlib.Omega.{arith}
-use lib.ListN.{length, take, get_or, replicate, length-append, length-replicate}
+use lib.ListN.{length, take, get_or, replicate}
 use lib.Seq.{take_at}
-use Rattle.planner.specs.Result.{Each, padded}
+use Rattle.planner.specs.Refusals.{Each, padded}
 use Rattle.route_sheet.specs.Sheet.{Sheet, Within, most_sets, most_moves, MoveAllowed, SheetAllowed}
 use Rattle.route_sheet.specs.Answer.{zero_move}
 use Rattle.route_sheet.specs.Inner.Route.{RouteListed}
@@ -34,7 +34,6 @@ listed_route x n allowed e =
     let few : length x.moves ≤ most_moves = allowed.second.count.to in
     record {
       count_most = omega arith;
-      count_places = rw (length-append, length-replicate) (omega arith);
       each =
           rw (take_padded most_moves n zero_move x.moves e)
           (each_named (length x.sets) x.moves allowed.first.count.to allowed.second.each);

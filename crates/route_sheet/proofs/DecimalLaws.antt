@@ -38,6 +38,14 @@ enough (suc m) (suc k) n h l = same (ltb n 10) refl (enough m k (n / 10))
         ∙ ap (λ (l : List ℕ). l ++ (digit (n % 10) ∷ [])) (less (omega (arith, ltb-false)) (omega (arith, ltb-false)))
         ∙ sym (stepped k n false e)
 
+pub one_step : (k n : ℕ) → n < 10 → digits_up_to (suc k) n ≡ digit n ∷ []
+unfolding step
+one_step k n h = stepped k n true (lt-ltb n 10 h)
+
+pub more_step : (k n : ℕ) → 10 ≤ n → digits_up_to (suc k) n ≡ digits_up_to k (n / 10) ++ (digit (n % 10) ∷ [])
+unfolding step
+more_step k n h = stepped k n false (le-ltb n 10 h)
+
 pub decimal_digit : (n : ℕ) → n < 10 → decimal n ≡ digit n ∷ []
 unfolding decimal step
 decimal_digit n h = stepped n n true (lt-ltb n 10 h)

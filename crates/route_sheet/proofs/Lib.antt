@@ -1,12 +1,11 @@
 -- The decimal of a number.
 pub mod DecimalLaws
-pub mod DigitLaws
+pub mod DecimalBridge
 -- Texts, and formats: what is written and read as one.
 pub mod TextLaws
 pub mod FormatLaws
 pub mod SequenceLaws
 pub mod MappedFormats
-pub mod ChoiceLaws
 -- The format of a number.
 pub mod ByteLaws
 pub mod NumberLaws
@@ -28,10 +27,7 @@ pub mod FailureLaws
 pub mod OutsideSpan
 -- One answer.
 pub mod AnswerLaws
--- The reader's code: a byte at an offset, the parts that it answers, a loop over lines, a whole sheet.
-pub mod OffsetLaws
-pub mod PartLaws
-pub mod LineRunLaws
+-- The reader's code: a loop over lines, a whole sheet.
 pub mod SectionRuns
 pub mod SheetRuns
 -- The report's code: bytes put one after the other, and the line of a move.

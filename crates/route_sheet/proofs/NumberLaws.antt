@@ -11,12 +11,11 @@ use Rattle.route_sheet.specs.Sheet.{Within, ended}
 use Rattle.route_sheet.specs.Inner.Reading.{Parse, parsed, failed, is_digit, digit_value, with_digit, read_digits, read_number}
 use Rattle.route_sheet.proofs.DecimalLaws.{decimal_digit, decimal_more, decimal_with, by_digits}
 use Rattle.route_sheet.proofs.TextLaws.{line_ends_append}
-use Rattle.route_sheet.proofs.FormatLaws.{Begins, Failure, ParseSound, Format, not_both, begins_none, failure_at_end}
+use Rattle.route_sheet.proofs.FormatLaws.{Begins, Failure, ParseSound, Stops, Format, begins_none, failure_at_end}
 use Rattle.route_sheet.proofs.ByteLaws.{Passes, decide, not_end, number_start, number_stop, digits_end, digits_next, digits_stop}
 
 -- A decimal is in one line.
 digit_lines : (d : ℕ) → line_ends (digit d ∷ []) ≡ 0
-unfolding line_ends
 digit_lines d = rw (ne_eqb (digit d) line_end (λ e. omega arith))
 
 pub decimal_lines : (n : ℕ) → line_ends (decimal n) ≡ 0
@@ -72,30 +71,25 @@ module _ (least most end : ℕ) (low : least ≤ 1) (plain : is_digit end ≡ fa
 
   -- Reading stops after p where no number goes on with the byte b.
   stopped :
-      (p : List ℕ) (b : ℕ) (s : List ℕ) → Begins text ok p → line_ends p ≡ 0 → ((r : List ℕ) → read (p ++ (b ∷ r)) ≡ failed 0) →
-      Failure text ok (p ++ (b ∷ s)) 0
-  stopped p b s begins lines stops =
+      (p : List ℕ) (b : ℕ) (s : List ℕ) → Begins text ok p → ((r : List ℕ) → read (p ++ (b ∷ r)) ≡ failed (b ∷ r)) →
+      Failure text ok read (p ++ (b ∷ s)) (b ∷ s)
+  stopped p b s begins stops =
       record {
         beginning = p;
-        rest = b ∷ s;
         splits = refl;
         begins = begins;
-        none_goes_on =
-            λ b' more at n h r w.
-            let same : b' ≡ b = cc in
-            not_both {k = 0} (reads_back n h []) (rw (append-nil, w, same) (stops r));
-        lines_are = lines;
+        stays = λ b' more at r. let same : b' ≡ b = cc in rw same (stops r);
       }
 
-  digits_sound : (s : List ℕ) (m : ℕ) → ok m → ParseSound text ok (decimal m ++ s) (read_digits most end m s)
+  digits_sound : (s : List ℕ) (m : ℕ) → ok m → ParseSound text ok read (decimal m ++ s) (read_digits most end m s)
   unfolding read_digits
-  digits_sound [] m h = rw append-nil (failure_at_end (begins_number m h) (decimal_lines m))
+  digits_sound [] m h = rw append-nil (failure_at_end (begins_number m h))
   digits_sound (b ∷ s) m h = go (ℕ_discrete b end) (decide b 1 m (with_digit m b) most) (digits_sound s (with_digit m b))
     where
       go :
           Dec (b ≡ end) → Dec (Passes b 1 m (with_digit m b) most) →
-          (ok (with_digit m b) → ParseSound text ok (decimal (with_digit m b) ++ s) (read_digits most end (with_digit m b) s)) →
-          ParseSound text ok (decimal m ++ (b ∷ s)) (read_digits most end m (b ∷ s))
+          (ok (with_digit m b) → ParseSound text ok read (decimal (with_digit m b) ++ s) (read_digits most end (with_digit m b) s)) →
+          ParseSound text ok read (decimal m ++ (b ∷ s)) (read_digits most end m (b ∷ s))
       go (yes e) d ih = rw (digits_end most end m b s e) (record { allowed = h; text_is = rw (e, append_assoc) })
       go (no e) (yes d) ih =
           let b_is : digit (digit_value b) ≡ b = omega arith in
@@ -104,41 +98,45 @@ module _ (least most end : ℕ) (low : least ≤ 1) (plain : is_digit end ≡ fa
           rw (digits_next most end m b s e d) (rw (more, append_assoc) at (ih (omega arith)))
       go (no e) (no d) ih =
           rw (digits_stop most end m b s e d)
-          (stopped (decimal m) b s (begins_number m h) (decimal_lines m) (λ r. after_digits m h (b ∷ r) ∙ digits_stop most end m b r e d))
+          (stopped (decimal m) b s (begins_number m h) (λ r. after_digits m h (b ∷ r) ∙ digits_stop most end m b r e d))
 
-  number_sound : 1 ≤ most → (t : List ℕ) → ParseSound text ok t (read t)
-  unfolding read_number line_ends
-  number_sound high [] = failure_at_end (begins_any high) refl
+  number_sound : 1 ≤ most → (t : List ℕ) → ParseSound text ok read t (read t)
+  unfolding read_number
+  number_sound high [] = failure_at_end (begins_any high)
   number_sound high (b ∷ s) = go (decide b least (digit_value b) (digit_value b) most)
     where
-      go : Dec (Passes b least (digit_value b) (digit_value b) most) → ParseSound text ok (b ∷ s) (read (b ∷ s))
+      go : Dec (Passes b least (digit_value b) (digit_value b) most) → ParseSound text ok read (b ∷ s) (read (b ∷ s))
       go (yes d) =
           let b_is : digit (digit_value b) ≡ b = omega arith in
           let one : decimal (digit_value b) ≡ b ∷ [] = decimal_digit (digit_value b) (omega arith) ∙ rw b_is in
           rw (number_start least most end b s d) (rw one at (digits_sound s (digit_value b) (omega arith)))
       go (no d) =
           rw (number_stop least most end b s d)
-          (stopped [] b s (begins_any high) refl (λ r. number_stop least most end b r d))
+          (stopped [] b s (begins_any high) (λ r. number_stop least most end b r d))
 
   pub number_format : 1 ≤ most → Format (λ n. ended end (decimal n)) (Within least most) (read_number least most end)
   number_format high = record { reads_back = reads_back; sound = number_sound high }
 
   -- A number outside its span.
   abbrev Outside : ℕ → Type 0
-  Outside n = (ok n → ⊥) → (s : List ℕ) → read (decimal n ++ s) ≡ failed 0
+  Outside n = (ok n → ⊥) → (s : List ℕ) → Stops (read (decimal n ++ s))
 
-  pub number_outside : (n : ℕ) → (Within least most n → ⊥) → (s : List ℕ) → read_number least most end (decimal n ++ s) ≡ failed 0
+  pub number_outside : (n : ℕ) → (Within least most n → ⊥) → (s : List ℕ) → Stops (read_number least most end (decimal n ++ s))
   number_outside = by_digits Outside one more
     where
       one : (n : ℕ) → n < 10 → Outside n
-      one n l h s = rw (decimal_digit n l) (number_stop least most end (digit n) s (λ d. h (omega arith)))
+      one n l h s = record { rest = digit n ∷ s; is = rw (decimal_digit n l) (number_stop least most end (digit n) s (λ d. h (omega arith))) }
 
       more : (n : ℕ) → 10 ≤ n → Outside (n / 10) → Outside n
       more n l ih h s = rw (last_digit n s l) (go (dec_le (n / 10) most))
         where
-          go : Dec (n / 10 ≤ most) → read (decimal (n / 10) ++ (digit (n % 10) ∷ s)) ≡ failed 0
+          go : Dec (n / 10 ≤ most) → Stops (read (decimal (n / 10) ++ (digit (n % 10) ∷ s)))
           go (yes k) =
               let d = digit (n % 10) in
-              after_digits (n / 10) (omega arith) (d ∷ s)
-              ∙ digits_stop most end (n / 10) d s (not_end d end plain (omega arith) (omega arith)) (λ p. h (omega arith))
+              record {
+                rest = d ∷ s;
+                is =
+                    after_digits (n / 10) (omega arith) (d ∷ s)
+                    ∙ digits_stop most end (n / 10) d s (not_end d end plain (omega arith) (omega arith)) (λ p. h (omega arith));
+              }
           go (no k) = ih (λ w. k w.to) (digit (n % 10) ∷ s)

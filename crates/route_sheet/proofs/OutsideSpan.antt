@@ -5,19 +5,18 @@ use mathlib.Core.List.{List, [], ◌∷◌, ◌++◌, append-nil, append_assoc}
 use mathlib.Core.Path.{◌≡◌, refl, sym, ap, ◌∙◌}
 use Prim.Native.Nat.{ℕ, ◌≤◌, ◌<◌}
 use native.Mathlib.Omega.{arith}
-use lib.IntN.{ℤ, nat_abs}
+use lib.IntN.{ℤ, pos, neg_ℤ, nat_abs}
 use lib.ListN.{length}
-use Rattle.planner.specs.Result.{Each}
-use Rattle.route_sheet.specs.Text.{space, line_end, minus, line_ends, decimal, signed_decimal}
+use Rattle.planner.specs.Refusals.{Each}
+use Rattle.route_sheet.specs.Text.{space, line_end, minus, decimal, signed_decimal}
 use Rattle.route_sheet.specs.Sheet.{Sheet, Within, most_sets, most_moves, most_number, most_displacement, SetAllowed, MoveAllowed, SectionAllowed, ended, count_line, set_line, move_line, joined, section_text}
 use Rattle.route_sheet.specs.Beginning.{CanBegin}
-use Rattle.route_sheet.specs.Inner.Reading.{Parse, parsed, then_read, is_digit, read_number, read_displacement, read_set, read_move, read_second, read_sections}
+use Rattle.route_sheet.specs.Inner.Reading.{Parse, parsed, then_read, is_digit, read_number, read_displacement, read_set, read_move, read_lines, read_sections}
 use Rattle.route_sheet.specs.declared.BoundSet.{BoundSet}
 use Rattle.route_sheet.specs.declared.RouteMove.{RouteMove}
 use Rattle.route_sheet.proofs.NumberLaws.{number_outside}
-use Rattle.route_sheet.proofs.DisplacementLaws.{without_minus, displacement_lines, displacement_format}
-use Rattle.route_sheet.proofs.LineLaws.{bound_format, bound_lines, count_format, count_lines, set_format, set_lines, move_format, move_lines}
-use Rattle.route_sheet.proofs.JoinedLaws.{joined_lines}
+use Rattle.route_sheet.proofs.DisplacementLaws.{without_minus, displacement_format}
+use Rattle.route_sheet.proofs.LineLaws.{bound_format, count_format, set_format, move_format}
 use Rattle.route_sheet.proofs.SectionLaws.{lines_format}
 use Rattle.route_sheet.proofs.FormatLaws.{not_both}
 use Rattle.route_sheet.proofs.ComesToLaws.{whole_text}
@@ -52,12 +51,15 @@ pub data NextNumber : (text : List ℕ) (least most : ℕ) → Type 0 where
 -- One of the first three numbers of a set.
 past :
     {s p : List ℕ} (next : ℕ → List ℕ → Parse BoundSet) (v : ℕ) → Within 0 most_number v → FailsAfter (next v) p s →
-    FailsAfter (λ t. then_read 0 (read_number 0 most_number space t) next) (ended space (decimal v) ++ p) s
-past next v h = in_second (bound_format space refl) next v h (bound_lines v)
+    FailsAfter (λ t. then_read (read_number 0 most_number space t) next) (ended space (decimal v) ++ p) s
+past next v h = in_second (bound_format space refl) next v h
 
 -- How the second section is read.
 abbrev second : List BoundSet → List ℕ → Parse Sheet
-second sets = read_second (length sets) sets
+second sets text =
+    then_read (read_number 1 most_moves line_end text) λ n rest.
+    then_read (read_lines (read_move (length sets)) n rest) λ moves rest.
+    parsed (record { sets = sets; moves = moves }) rest
 
 -- The number n, and what follows it.
 module _ (n : ℕ) (rest : List ℕ) where
@@ -65,38 +67,39 @@ module _ (n : ℕ) (rest : List ℕ) where
   Fails read p = FailsAfter read p (decimal n ++ rest)
 
   number_fails : (least most end : ℕ) → least ≤ 1 → is_digit end ≡ false → (Within least most n → ⊥) → Fails (read_number least most end) []
-  unfolding line_ends
-  number_fails least most end low plain out = record { fails = number_outside least most end low plain n out rest }
+  number_fails least most end low plain out = record { stops = number_outside least most end low plain n out rest }
 
   in_set :
       (numbers : List ℕ) → Each (Within 0 most_number) numbers → length numbers < 4 → (Within 0 most_number n → ⊥) →
       Fails read_set (joined (λ m. ended space (decimal m)) numbers)
   unfolding read_set joined
-  in_set [] h l out = in_first _ _ (number_fails 0 most_number space (omega arith) refl out)
-  in_set (v ∷ []) h l out = past _ v h.0 (in_first _ _ (number_fails 0 most_number space (omega arith) refl out))
-  in_set (v ∷ a ∷ []) h l out = past _ v h.0 (past _ a h.1.0 (in_first _ _ (number_fails 0 most_number space (omega arith) refl out)))
+  in_set [] h l out = in_first _ (number_fails 0 most_number space (omega arith) refl out)
+  in_set (v ∷ []) h l out = past _ v h.0 (in_first _ (number_fails 0 most_number space (omega arith) refl out))
+  in_set (v ∷ a ∷ []) h l out = past _ v h.0 (past _ a h.1.0 (in_first _ (number_fails 0 most_number space (omega arith) refl out)))
   in_set (v ∷ a ∷ j ∷ []) h l out =
-      past _ v h.0 (past _ a h.1.0 (past _ j h.1.1.0 (in_first _ _ (number_fails 0 most_number line_end (omega arith) refl out))))
+      past _ v h.0 (past _ a h.1.0 (past _ j h.1.1.0 (in_first _ (number_fails 0 most_number line_end (omega arith) refl out))))
   in_set (v ∷ a ∷ j ∷ s ∷ more) h l out = absurd (omega arith)
 
   in_displacement : (Within 0 most_displacement n → ⊥) → Fails read_displacement []
   in_displacement out =
-      record { fails = without_minus n rest ∙ (in_first _ _ (number_fails 0 most_displacement space (omega arith) refl out)).fails }
+      let s = (in_first (λ m after. parsed (pos m) after) (number_fails 0 most_displacement space (omega arith) refl out)).stops in
+      record { stops = record { rest = s.rest; is = without_minus n rest ∙ s.is } }
 
   after_minus : (Within 1 most_displacement n → ⊥) → Fails read_displacement (minus ∷ [])
-  unfolding read_displacement line_ends
-  after_minus out = record { fails = (in_first _ _ (number_fails 1 most_displacement space (omega arith) refl out)).fails }
+  unfolding read_displacement
+  after_minus out =
+      record { stops = (in_first (λ m after. parsed (neg_ℤ (pos m)) after) (number_fails 1 most_displacement space (omega arith) refl out)).stops }
 
   in_move_line :
       {text : List ℕ} {least most : ℕ} (setCount : ℕ) → NextInMove setCount text least most → (Within least most n → ⊥) →
       Fails (read_move setCount) text
   unfolding read_move
-  in_move_line setCount displacement out = in_first _ _ (in_displacement out)
-  in_move_line setCount displacement_after_minus out = in_first _ _ (after_minus out)
+  in_move_line setCount displacement out = in_first _ (in_displacement out)
+  in_move_line setCount displacement_after_minus out = in_first _ (after_minus out)
   in_move_line setCount (set_number x x-ok) out =
       let after_x : Fails (read_move setCount) (ended space (signed_decimal x) ++ []) =
-      in_second displacement_format _ x x-ok (displacement_lines x)
-      (in_first _ _ (number_fails 1 setCount line_end (omega arith) refl out)) in
+      in_second displacement_format _ x x-ok
+      (in_first _ (number_fails 1 setCount line_end (omega arith) refl out)) in
       rw append-nil at after_x
 
   in_second_section :
@@ -105,23 +108,22 @@ module _ (n : ℕ) (rest : List ℕ) where
   unfolding read_sections
   in_second_section {p} sets h k =
       rw (append_assoc (count_line (length sets)) (joined set_line sets) p)
-      (in_second (count_format most_sets (omega arith)) _ (length sets) h.count (count_lines (length sets))
-      (in_second (lines_format set_format set_lines (length sets)) _ sets (record { each = h.each; count = refl })
-      (joined_lines set_line set_lines sets) k))
+      (in_second (count_format most_sets (omega arith)) _ (length sets) h.count
+      (in_second (lines_format set_format (length sets)) _ sets (record { each = h.each; count = refl }) k))
 
   in_sheet : {text : List ℕ} {least most : ℕ} → NextNumber text least most → (Within least most n → ⊥) → Fails read_sections text
   unfolding read_sections
-  in_sheet set_count out = in_first _ _ (number_fails 1 most_sets line_end (omega arith) refl out)
+  in_sheet set_count out = in_first _ (number_fails 1 most_sets line_end (omega arith) refl out)
   in_sheet (bound count sets numbers count-ok sets-ok numbers-ok) out =
-      in_second (count_format most_sets (omega arith)) _ count count-ok (count_lines count)
-      (in_first _ _ (in_lines set_format set_lines count sets sets-ok.each sets-ok.fewer
+      in_second (count_format most_sets (omega arith)) _ count count-ok
+      (in_first _ (in_lines set_format count sets sets-ok.each sets-ok.fewer
       (in_set numbers numbers-ok.each numbers-ok.fewer out)))
   in_sheet (move_count sets h) out =
-      rw append-nil at (in_second_section {p = []} sets h (in_first _ _ (number_fails 1 most_moves line_end (omega arith) refl out)))
+      rw append-nil at (in_second_section {p = []} sets h (in_first _ (number_fails 1 most_moves line_end (omega arith) refl out)))
   in_sheet (in_move sets count moves {text = p} sets-ok count-ok moves-ok next) out =
       in_second_section sets sets-ok
-      (in_second (count_format most_moves (omega arith)) _ count count-ok (count_lines count)
-      (in_first _ _ (in_lines (move_format (length sets) sets-ok.count.from) move_lines count moves moves-ok.each moves-ok.fewer
+      (in_second (count_format most_moves (omega arith)) _ count count-ok
+      (in_first _ (in_lines (move_format (length sets) sets-ok.count.from) count moves moves-ok.each moves-ok.fewer
       (in_move_line (length sets) next out))))
 
 -- So no sheet goes on with it.
@@ -132,4 +134,4 @@ outside_span text least most n next out begins =
     let whole : read_sections (text ++ (decimal n ++ rest)) ≡ parsed begins.sheet [] =
     ap read_sections (sym (append_assoc text (decimal n) rest) ∙ sym begins.whole)
     ∙ whole_text _ begins.sheet begins.allowed refl in
-    not_both whole (in_sheet n rest next out).fails
+    not_both whole (in_sheet n rest next out).stops.is

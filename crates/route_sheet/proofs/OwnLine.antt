@@ -5,7 +5,7 @@ use mathlib.Core.Path.{◌≡◌, refl, sym, ap, subst, ◌∙◌}
 use Prim.Native.Nat.{ℕ, ◌+◌, ◌≤◌}
 use native.Mathlib.Omega.{arith}
 use lib.ListN.{length, length-append}
-use Rattle.planner.specs.Result.{Result, refused}
+use Rattle.std.specs.Prelude.{Result, Err}
 use Rattle.route_sheet.specs.Text.{line_ends, decimal}
 use Rattle.route_sheet.specs.Sheet.{Sheet}
 use Rattle.route_sheet.specs.Beginning.{CanBegin, LongestBeginning, most_bytes, ComesTo, too_long, listed, malformed_at}
@@ -39,12 +39,12 @@ module _ (text rest : List ℕ) (n : ℕ) (begins : CanBegin text) (cannot : Can
       absurd (omega (arith, long, ap length f, length-append p (b ∷ more)))
   lines_by h (shorter more f g) = within f h.can_begin (overlap (decimal n) rest more h.rest g)
 
-  charged : {x : Result (ℕ × ℕ) Sheet} → length whole ≤ most_bytes → ComesTo whole x → x ≡ refused (11, 1 + line_ends text)
+  charged : {x : Result Sheet (ℕ × ℕ)} → length whole ≤ most_bytes → ComesTo whole x → x ≡ Err (11, 1 + line_ends text)
   charged fits (too_long l) = absurd (omega arith)
   charged fits (listed {sheet = sheet} l ok e) =
       absurd (cannot (record { sheet = sheet; allowed = ok; rest = rest; whole = sym e ∙ sym (append_assoc text (decimal n) rest) }))
   charged fits (malformed_at {beginning = p} l no-sheet h) =
-      ap (λ (k : ℕ). refused (11, 1 + k)) (lines_by h (overlap text (decimal n ++ rest) p h.rest h.splits))
+      ap (λ (k : ℕ). Err (11, 1 + k)) (lines_by h (overlap text (decimal n ++ rest) p h.rest h.splits))
 
 pub own_line : OwnLineClaim
 own_line text rest n begins cannot fits =

@@ -6,7 +6,7 @@ use lib.IntN.{pos}
 use lib.ListN.{length, length-append}
 use Rattle.planner.specs.Quantities.{along}
 use Rattle.planner.specs.Intervals.{p, q, r, s, N}
-use Rattle.planner.specs.Result.{Result, refused, given}
+use Rattle.std.specs.Prelude.{Result, Ok, Err}
 use Rattle.planner.specs.Outcome.{intervals_of, intervals_in, outcome_of}
 use Rattle.planner.specs.Inner.Facts.{PlanFacts}
 use Rattle.planner.specs.declared.Move.{Move}
@@ -20,11 +20,11 @@ use Rattle.route_sheet.specs.Inner.Lines.{most_line}
 use Rattle.route_sheet.proofs.DecimalLaws.{decimal_length, signed_length}
 
 module _ (number : ℕ) (m : Move) (few : number ≤ most_moves) where
-  refusal_length : (n : ℕ) → n ≤ 14 → length (move_report number m.displacement (refused n)) ≤ most_line
+  refusal_length : (n : ℕ) → n ≤ 14 → length (move_report number m.displacement (Err n)) ≤ most_line
   unfolding move_report field
   refusal_length n h = simp length-append (omega (arith, decimal_length 2 number (omega arith), decimal_length 1 n (omega arith)))
 
-  plan_length : (x : Plan) → PlanFacts m (intervals_of m) x → length (move_report number m.displacement (given x)) ≤ most_line
+  plan_length : (x : Plan) → PlanFacts m (intervals_of m) x → length (move_report number m.displacement (Ok x)) ≤ most_line
   unfolding move_report field
   plan_length x facts =
       let t = intervals_in x in
@@ -42,6 +42,6 @@ module _ (number : ℕ) (m : Move) (few : number ≤ most_moves) where
   pub line_length : length (move_report number m.displacement (outcome_of m)) ≤ most_line
   line_length = go (outcome_of m) refl
     where
-      go : (o : Result ℕ Plan) → outcome_of m ≡ o → length (move_report number m.displacement (outcome_of m)) ≤ most_line
-      go (refused n) e = rw e (refusal_length n (refused_most m n e).1)
-      go (given x) e = rw e (plan_length x (planned_facts (record { outcome_is = sym e })))
+      go : (o : Result Plan ℕ) → outcome_of m ≡ o → length (move_report number m.displacement (outcome_of m)) ≤ most_line
+      go (Err n) e = rw e (refusal_length n (refused_most m n e).1)
+      go (Ok x) e = rw e (plan_length x (planned_facts (record { outcome_is = sym e })))

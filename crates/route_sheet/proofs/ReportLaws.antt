@@ -1,32 +1,27 @@
 -- The report of a sheet: its length, and that the places of a reading give it.
 use mathlib.Core.List.{List, [], ◌∷◌, ◌++◌}
-use mathlib.Core.Path.{◌≡◌, refl, sym, ◌∙◌, ap}
+use mathlib.Core.Path.{◌≡◌, refl, ap}
 use Prim.Native.Nat.{ℕ, suc, ◌+◌, ◌*◌, ◌≤◌}
 use native.Mathlib.Omega.{arith}
 use lib.ListN.{length, take, replicate, length-append}
-use lib.Seq.{sets-eq}
-use Rattle.planner.specs.Result.{Result, given, padded}
-use Rattle.planner.proofs.ResultLaws.{same_given}
-use Rattle.route_sheet.specs.Text.{line_ends}
+use Rattle.planner.specs.Refusals.{padded}
+use Rattle.std.specs.Prelude.{Result}
+use lib.Dec.{eqb}
+use Rattle.route_sheet.specs.Text.{line_end, line_ends}
 use Rattle.route_sheet.specs.Sheet.{Sheet, most_sets, most_moves}
-use Rattle.route_sheet.specs.Beginning.{LongestBeginning, ComesTo, too_long, listed, malformed_at}
-use Rattle.route_sheet.specs.Answer.{zero_set, zero_move, Contents, contents_of, ReadsSheet}
+use Rattle.route_sheet.specs.Beginning.{LongestBeginning, most_bytes, ComesTo, too_long, listed, malformed_at}
+use Rattle.route_sheet.specs.Answer.{zero_set, zero_move}
 use Rattle.route_sheet.specs.Report.{field, move_of, moves_report, sheet_report, most_report, Reports}
 use Rattle.route_sheet.specs.Claims.{ReportFitsClaim}
-use Rattle.route_sheet.specs.Inner.Reading.{lines_in}
 use Rattle.route_sheet.specs.Inner.Output.{Puts}
 use Rattle.route_sheet.specs.Inner.Lines.{most_line}
-use Rattle.route_sheet.specs.Inner.Route.{RouteListed}
 use Rattle.route_sheet.specs.declared.BoundSet.{BoundSet}
 use Rattle.route_sheet.specs.declared.RouteMove.{RouteMove}
-use Rattle.route_sheet.specs.declared.SheetAnswer.TheVariants.{Listed}
-use Rattle.route_sheet.specs.declared.SheetReading.{SheetReading}
 use Rattle.route_sheet.proofs.DecimalLaws.{decimal_length}
-use Rattle.route_sheet.proofs.TextLaws.{line_ends_append}
-use Rattle.route_sheet.proofs.SheetLaws.{sheet_lines}
+use Rattle.std.proofs.lemmas.List.Sums.{count_by-le-length}
+use Rattle.route_sheet.proofs.OutputLaws.{put_whole}
 use Rattle.route_sheet.proofs.ReportBounds.{line_length}
-use Rattle.route_sheet.proofs.ReadingTheorems.{answer_is, written_back}
-use Rattle.route_sheet.proofs.ContentsLaws.{take_padded, get_d_padded, listed_route}
+use Rattle.route_sheet.proofs.ContentsLaws.{take_padded, get_d_padded}
 
 -- Places that no set takes change no line: their bounds are the default of `move_of`.
 moves_padded :
@@ -37,33 +32,11 @@ moves_padded sets k number [] = refl
 moves_padded sets k number (m ∷ ms) = rw (get_d_padded, moves_padded sets k (suc number) ms)
 
 -- The lines that the places of a sheet make are its lines.
-places_lines :
+pub places_lines :
     (x : Sheet) (sets : List BoundSet) (moves : List RouteMove) (n : ℕ) →
     sets ≡ padded most_sets zero_set x.sets → moves ≡ padded most_moves zero_move x.moves → length x.moves ≡ n →
     moves_report sets 1 (take n moves) ≡ moves_report x.sets 1 x.moves
 places_lines x sets moves n s t e = rw (s, t, take_padded most_moves n zero_move x.moves e, moves_padded)
-
--- What a reading that lists n moves has: a sheet that the text comes to, a route, and the sheet's report as the lines of its places.
-pub record ListedReading (text : List ℕ) (r : SheetReading) (n : ℕ) : Type 0 where
-  pub sheet : Sheet
-  pub comes_to : ComesTo text (given sheet)
-  pub route : RouteListed r.moves n
-  pub lines_are : moves_report r.sets 1 (take n r.moves) ≡ sheet_report (given sheet)
-
-pub listed_reading : {text : List ℕ} {r : SheetReading} {m n : ℕ} → ReadsSheet text r → r.answer ≡ Listed m n → ListedReading text r n
-unfolding sheet_report contents_of
-listed_reading {text} {r} {m} {n} reads e =
-    let x = written_back reads e in
-    let count : length x.sheet.moves ≡ n =
-    ap (λ (counts : ℕ × ℕ). counts.1) (same_given (answer_is _ (given x.sheet) x.contents_are e)) in
-    let sets : r.sets ≡ padded most_sets zero_set x.sheet.sets = ap (λ (c : Contents). c.sets) x.contents_are in
-    let moves : r.moves ≡ padded most_moves zero_move x.sheet.moves = ap (λ (c : Contents). c.moves) x.contents_are in
-    record {
-      sheet = x.sheet;
-      comes_to = listed x.fits x.allowed x.text_is;
-      route = rw moves (listed_route x.sheet n x.allowed count);
-      lines_are = places_lines x.sheet _ _ n sets moves count;
-    }
 
 moves_length :
     (sets : List BoundSet) (number : ℕ) (ms : List RouteMove) → number + length ms ≤ suc most_moves →
@@ -75,38 +48,28 @@ moves_length sets number (m ∷ ms) h =
     (omega (arith, line_length number (move_of sets m) (omega arith), moves_length sets (suc number) ms (omega arith)))
 
 -- The largest line of a refusal.
-most_line_lem : {text p : List ℕ} → LongestBeginning text p → 1 + line_ends p ≤ 275
-most_line_lem {p = p} h =
-    let begin = h.can_begin in
-    let ends : line_ends p + line_ends begin.rest ≡ lines_in begin.sheet =
-    sym (line_ends_append p begin.rest) ∙ ap line_ends (sym begin.whole) ∙ sheet_lines begin.sheet in
-    omega (arith, ends, begin.allowed.first.count.to, begin.allowed.second.count.to)
+most_line_lem : {text p : List ℕ} → length text ≤ most_bytes → LongestBeginning text p → 1 + line_ends p ≤ 65536
+most_line_lem {p = p} l h = omega (arith, count_by-le-length (λ b. eqb b line_end) p, ap length h.splits, length-append p h.rest)
 
 pub report_fits : ReportFitsClaim
 unfolding sheet_report field
 report_fits text result (too_long l) = simp length-append (omega (arith, decimal_length 1 12 (omega arith)))
 report_fits text result (malformed_at {beginning = p} l no-sheet h) =
-    let line-most = most_line_lem h in
-    simp length-append (omega (arith, decimal_length 1 11 (omega arith), decimal_length 2 (1 + line_ends p) (omega arith)))
+    let line-most = most_line_lem l h in
+    simp length-append (omega (arith, decimal_length 1 11 (omega arith), decimal_length 4 (1 + line_ends p) (omega arith)))
 report_fits text result (listed {sheet = x} l allowed e) =
     let few : length x.moves ≤ most_moves = allowed.second.count.to in
     omega (arith, moves_length x.sets 1 x.moves (omega arith))
 
 -- What was put from the first place on is the report, and the places after it are as they were.
 pub reports :
-    {text old new : List ℕ} {count : ℕ} {result : Result (ℕ × ℕ) Sheet} → length old ≡ most_report → ComesTo text result →
+    {text old new : List ℕ} {count : ℕ} {result : Result Sheet (ℕ × ℕ)} → length old ≡ most_report → ComesTo text result →
     Puts old 0 (sheet_report result) count new → Reports text old count new
 reports {text} {old} {result = result} size comes_to puts =
     let report = sheet_report result in
-    let fits : 0 + length report ≤ length old = omega (arith, report_fits text result comes_to) in
-    let all : 0 + length report ≡ length report = omega arith in
     record {
       result = result;
       comes_to = comes_to;
-      count_is = puts.next_is ∙ all;
-      new_is = puts.new_is ∙ sets-eq report old 0 fits ∙ rw all;
+      count_is = omega (arith, puts.next_is);
+      new_is = put_whole puts;
     }
-
--- The bytes that are counted are there, so a caller can lend them.
-pub counted : {text old new : List ℕ} {count : ℕ} → Reports text old count new → count ≤ length new
-counted {text} {old} h = rw (h.new_is, length-append) (omega (arith, h.count_is))

@@ -1,82 +1,60 @@
 -- The loop that reads a section, over any kind of line: its invariant, and one law for each of its steps.
-use mathlib.Core.List.{List, [], ◌∷◌, ◌++◌, append_assoc}
-use mathlib.Core.Path.{◌≡◌, refl, ◌∙◌, ap}
-use Prim.Native.Nat.{ℕ, suc, ◌+◌, ◌-◌, ◌≤◌, ◌<◌}
+use mathlib.Core.List.{List, [], ◌∷◌, ◌++◌, append-nil, append_assoc}
+use mathlib.Core.Path.{◌≡◌, refl, ◌∙◌}
+use Prim.Native.Nat.{ℕ, suc, ◌+◌, ◌-◌, ◌<◌}
 use native.Mathlib.Omega.{arith}
-use borrow.Author.Tests.{lt-ltb, le-ltb}
-use lib.ListN.{length, drop, set, replicate, length-append}
-use lib.Seq.{set_at}
-use Rattle.route_sheet.specs.Inner.Reading.{Parse, parsed, failed, read_lines}
-use Rattle.route_sheet.specs.Inner.Sections.{ValuesIn, ReadsSection}
-use Rattle.route_sheet.proofs.LineRunLaws.{prepend, prepend_none, lines_next, lines_failed, lines_done}
+use lib.ListN.{length, set, take}
+use Rattle.std.proofs.lemmas.List.{take_all, take_more_set}
+use Rattle.route_sheet.specs.Inner.Reading.{Parse, parsed, failed, then_read, read_lines}
 
--- After `done` of `count` lines.
-pub record LinesRead {A : Type 0} (read : List ℕ → Parse A) (text : List ℕ) (from most : ℕ) (unused : A) (count done next : ℕ)
-    (places : List A) : Type 0 where
-  pub lines : ValuesIn most unused count done places
-  pub found : read_lines read count (drop from text) ≡ prepend lines.values (read_lines read (count - done) (drop next text))
+-- What stands before the lines that are left.
+abbrev pub after : {A : Type 0} → List A → Parse (List A) → Parse (List A)
+after xs found = then_read found λ ys rest. parsed (xs ++ ys) rest
 
--- The places, with one value more.
-module _ {A : Type 0} (most : ℕ) (unused : A) (count : ℕ) where
-  no_values : ValuesIn most unused count 0 (replicate most unused)
-  no_values =
-      let all : most - 0 ≡ most = omega arith in
-      record { values = []; places_are = rw all; done_are = refl; done_count = omega arith }
+-- The first `done` of `count` lines are read into as many places.
+pub record LinesRead {A : Type 0} (read : List ℕ → Parse A) (text : List ℕ) (count done : ℕ) (rest : List ℕ) (places : List A) : Type 0 where
+  pub found : read_lines read count text ≡ after (take done places) (read_lines read (count - done) rest)
 
-  one_value :
-      (done : ℕ) (places : List A) (x : A) → count ≤ most → done < count → ValuesIn most unused count done places →
-      ValuesIn most unused count (done + 1) (set places done x)
-  one_value done places x h l v =
-      let k : ℕ = most - suc done in
-      let free : most - length v.values ≡ suc k = omega (arith, v.done_are) in
-      let now_free : most - length (v.values ++ (x ∷ [])) ≡ k = rw length-append (omega (arith, v.done_are)) in
-      let stored = set_at v.values unused (replicate k unused) x done v.done_are in
-      record {
-        values = v.values ++ (x ∷ []);
-        places_are = rw (v.places_are, free, stored, now_free, append_assoc);
-        done_are = rw length-append (omega (arith, v.done_are));
-        done_count = omega arith;
-      }
+after_one :
+    {A : Type 0} (xs : List A) (x : A) (found : Parse (List A)) →
+    after xs (then_read found λ ys rest. parsed (x ∷ ys) rest) ≡ after (xs ++ (x ∷ [])) found
+unfolding then_read
+after_one xs x (parsed ys rest) = rw append_assoc
+after_one xs x (failed rest) = refl
 
-module _ {A : Type 0} {read : List ℕ → Parse A} {text : List ℕ} {from most : ℕ} {unused : A} {count : ℕ} where
-  pub none_read : LinesRead read text from most unused count 0 from (replicate most unused)
-  unfolding no_values
-  none_read =
-      let left : count - 0 ≡ count = omega arith in
-      record {
-        lines = no_values most unused count;
-        found = rw (prepend_none (read_lines read (count - 0) (drop from text)), left);
-      }
+none_before : {A : Type 0} (found : Parse (List A)) → found ≡ after [] found
+unfolding then_read
+none_before (parsed ys rest) = refl
+none_before (failed rest) = refl
 
-  module _ {done next : ℕ} {places : List A} (so_far : LinesRead read text from most unused count done next places) where
-    abbrev values : List A
-    values = so_far.lines.values
+module _ {A : Type 0} {read : List ℕ → Parse A} {text : List ℕ} {count : ℕ} where
+  pub none_read : (places : List A) → LinesRead read text count 0 text places
+  unfolding then_read
+  none_read places =
+      let all : count - 0 ≡ count = omega arith in
+      record { found = rw all (none_before (read_lines read count text)) }
 
+  module _ {done : ℕ} {rest : List ℕ} {places : List A} (so_far : LinesRead read text count done rest places) where
     pub one_read :
-        (x : A) (after : ℕ) → count ≤ most → done < count → read (drop next text) ≡ parsed x (drop after text) →
-        LinesRead read text from most unused count (done + 1) after (set places done x)
-    unfolding one_value
-    one_read x after h l e =
+        {x : A} {next : List ℕ} → length places ≡ count → done < count → read rest ≡ parsed x next →
+        LinesRead read text count (done + 1) next (set places done x)
+    unfolding then_read read_lines
+    one_read {x} {next} h l e =
         let left : count - done ≡ suc (count - (done + 1)) = omega arith in
-        record {
-          lines = one_value most unused count done places x h l so_far.lines;
-          found =
-              so_far.found ∙ lines_next read values (count - done) (count - (done + 1)) (drop next text) x (drop after text) left e;
-        }
+        let there : done < length places = omega arith in
+        record { found = so_far.found ∙ rw (left, read_lines, e, take_more_set places done x there) (after_one (take done places) x (read_lines read (count - (done + 1)) next)) }
 
-    pub section_failed :
-        done < count → read (drop next text) ≡ failed 0 →
-        ReadsSection (read_lines read count (drop from text)) text most unused count done next places
-    section_failed l e =
-        let stops = lines_failed read values (count - done) (count - done - 1) (drop next text) (omega arith) e in
-        record {
-          lines = so_far.lines;
-          found_is = rw (lt-ltb done count l) (so_far.found ∙ stops ∙ ap failed so_far.lines.done_are);
-        }
+    pub lines_fail : {next : List ℕ} → done < count → failed next ≡ read rest → failed next ≡ read_lines read count text
+    unfolding then_read read_lines
+    lines_fail l e =
+        let left : count - done ≡ suc (count - (done + 1)) = omega arith in
+        rw (so_far.found, left, read_lines, ← e)
 
-    pub section_whole : count ≤ done → ReadsSection (read_lines read count (drop from text)) text most unused count done next places
-    section_whole l =
-        record {
-          lines = so_far.lines;
-          found_is = rw (le-ltb done count l) (so_far.found ∙ lines_done read values (count - done) (drop next text) (omega arith));
-        }
+    pub lines_end : done ≡ count → length places ≡ count → read_lines read count text ≡ parsed places rest
+    unfolding then_read read_lines
+    lines_end l h =
+        let left : count - done ≡ 0 = omega arith in
+        let all : take done places ≡ places = take_all done places (omega arith) in
+        rw (so_far.found, left, read_lines, all, append-nil)
+
+pub ruleset section_steps = (one_read, lines_end)

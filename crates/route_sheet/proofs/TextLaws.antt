@@ -1,11 +1,9 @@
 -- Two splits of one text, and the line ends of a text.
-use mathlib.Core.Bool.{Bool, true, false, cond}
 use mathlib.Core.List.{List, [], ◌∷◌, ◌++◌}
 use mathlib.Core.Path.{◌≡◌, refl, sym}
-use Prim.Native.Nat.{ℕ, suc, ◌+◌}
-use native.Mathlib.Omega.{arith}
-use lib.Dec.{eqb}
-use Rattle.route_sheet.specs.Text.{line_end, line_ends}
+use Rattle.std.proofs.lemmas.List.Sums.{sum_by-append}
+use Prim.Native.Nat.{ℕ, ◌+◌}
+use Rattle.route_sheet.specs.Text.{line_ends}
 
 -- The first parts of xs ++ ys and zs ++ ws, where the two are one text: the one goes on past the other.
 pub data Overlap (xs ys zs ws : List ℕ) : Type 0 where
@@ -22,12 +20,4 @@ overlap (x ∷ xs) ys [] ws e = longer x xs refl (sym e)
 overlap (x ∷ xs) ys (z ∷ zs) ws e = under (cc) (overlap xs ys zs ws (cc))
 
 pub line_ends_append : (s t : List ℕ) → line_ends (s ++ t) ≡ line_ends s + line_ends t
-unfolding line_ends
-line_ends_append [] t = omega arith
-line_ends_append (b ∷ s) t = go (eqb b line_end) (line_ends_append s t)
-  where
-    go :
-        (x : Bool) → line_ends (s ++ t) ≡ line_ends s + line_ends t →
-        cond x (suc (line_ends (s ++ t))) (line_ends (s ++ t)) ≡ cond x (suc (line_ends s)) (line_ends s) + line_ends t
-    go true h = omega arith
-    go false h = h
+line_ends_append s t = sum_by-append _ s t

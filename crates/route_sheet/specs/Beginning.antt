@@ -1,6 +1,5 @@
 -- What a text comes to, by the meaning of the rules: no reader stands here.
-use Rattle.std.specs.Prelude.{List, ◌++◌, ◌≡◌, ℕ, ◌+◌, ◌≤◌, ◌<◌, length}
-use Rattle.planner.specs.Result.{Result, refused, given}
+use Rattle.std.specs.Prelude.{List, ◌++◌, ◌≡◌, ℕ, ◌+◌, ◌≤◌, ◌<◌, length, Result, Ok, Err}
 use Rattle.route_sheet.specs.Text.{line_ends}
 use Rattle.route_sheet.specs.Sheet.{Sheet, SheetAllowed, sheet_text}
 
@@ -28,9 +27,9 @@ most_bytes = 65535
 
 -- What a text comes to; a refusal is its number and its line, 0 where it has none. "12 comes before 11, since such a sheet is not read
 -- further." "The line in refusal 11 is one more than the line ends before the first byte (or end) that cannot go on."
-pub data ComesTo (text : List ℕ) : Result (ℕ × ℕ) Sheet → Type 0 where
-  too_long : most_bytes < length text → ComesTo text (refused (12, 0))
-  listed : {sheet : Sheet} → length text ≤ most_bytes → SheetAllowed sheet → text ≡ sheet_text sheet → ComesTo text (given sheet)
+pub data ComesTo (text : List ℕ) : Result Sheet (ℕ × ℕ) → Type 0 where
+  too_long : most_bytes < length text → ComesTo text (Err (12, 0))
+  listed : {sheet : Sheet} → length text ≤ most_bytes → SheetAllowed sheet → text ≡ sheet_text sheet → ComesTo text (Ok sheet)
   malformed_at :
       {beginning : List ℕ} → length text ≤ most_bytes → NoSheet text → LongestBeginning text beginning →
-      ComesTo text (refused (11, 1 + line_ends beginning))
+      ComesTo text (Err (11, 1 + line_ends beginning))

@@ -1,6 +1,6 @@
 -- What a sheet may list, and its text, written out from its sets and moves.
 use Rattle.std.specs.Prelude.{List, [], ◌∷◌, ◌++◌, ℕ, ◌-◌, ◌^◌, ◌≤◌, nat_abs, length}
-use Rattle.planner.specs.Result.{Each}
+use Rattle.planner.specs.Refusals.{Each}
 use Rattle.route_sheet.specs.Text.{space, line_end, decimal, signed_decimal}
 use Rattle.route_sheet.specs.declared.BoundSet.{BoundSet}
 use Rattle.route_sheet.specs.declared.RouteMove.{RouteMove}

@@ -1,53 +1,26 @@
 // X: the displacement of a move, with its sign.
-ghost use Rattle.std.specs.Prelude.{◌≡◌, ◌≤◌, drop};
-ghost use Rattle.planner.specs.Quantities.{signed};
-ghost use Rattle.route_sheet.specs.Sheet.{most_displacement};
+ghost use Rattle.std.specs.Prelude.{◌≡◌};
 ghost use Rattle.route_sheet.specs.Inner.Reading.{read_displacement};
-ghost use Rattle.route_sheet.specs.Inner.Parts.{read_size, displacement_parse};
+ghost use Rattle.route_sheet.specs.Inner.Parts.{seen};
 
-use crate::number::{NumberRead, SPACE, read_number};
-
-const MINUS: u8 = b'-';
+use crate::malformed::Malformed;
+use crate::number::read_number;
 
 // The farthest X that a sheet may hold, either way. What the planner refuses is read all the same.
 const MOST_DISPLACEMENT: u64 = 9_223_372_036_854_775_807;
 
-// A displacement and the offset after the space that ends it; or there is none to read.
-#[derive(Clone, Copy)]
-pub(crate) enum DisplacementRead {
-    Displacement(i64, usize),
-    Unread,
-}
-
-fn with_sign(size: u64, negative: bool) -> i64
-    requires { size ≤ most_displacement }
-    ensures { result ≡ signed negative size }
+// The displacement that the text begins with. After a minus the size is at least 1: "-0" is malformed.
+#[tactic(auto, unfolding(crate::specs::Inner::Reading::read_displacement, crate::specs::Inner::Reading::then_read))]
+pub(crate) fn read_displacement(text: &[u8]) -> Result<(i64, &[u8]), Malformed<'_>>
+    ensures { seen result ≡ read_displacement text.now }
 {
-    if negative {
-        return 0 - (size as i64);
-    }
-    size as i64
-}
-
-fn read_size(text: &[u8], from: usize, least: u64, negative: bool) -> DisplacementRead
-    ensures { displacement_parse text.now result ≡ read_size least negative (drop from text.now) }
-{
-    let size = read_number(text, from, least, MOST_DISPLACEMENT, SPACE);
-    let NumberRead::Number(value, next) = size else {
-        return DisplacementRead::Unread;
+    let [first, after @ ..] = text else {
+        return Err(Malformed { rest: text });
     };
-    DisplacementRead::Displacement(with_sign(value, negative), next)
-}
-
-// The displacement that starts at `from`. After a minus the size is at least 1: "-0" is malformed.
-pub(crate) fn read_displacement(text: &[u8], from: usize) -> DisplacementRead
-    ensures { displacement_parse text.now result ≡ read_displacement (drop from text.now) }
-{
-    if text.len() <= from {
-        return DisplacementRead::Unread;
+    if *first == b'-' {
+        let (size, rest) = read_number(after, 1, MOST_DISPLACEMENT, b' ')?;
+        return Ok((-(size as i64), rest));
     }
-    if text[from] == MINUS {
-        return read_size(text, from + 1, 1, true);
-    }
-    read_size(text, from, 0, false)
+    let (size, rest) = read_number(text, 0, MOST_DISPLACEMENT, b' ')?;
+    Ok((size as i64, rest))
 }

@@ -1,9 +1,9 @@
 // A route sheet: its text read into bound sets and moves, and the report of their plans.
 #![tactic(auto)]
 
-mod blank;
 mod displacement;
 mod lines;
+mod malformed;
 mod number;
 mod output;
 mod plan_line;
@@ -18,17 +18,22 @@ ghost use Rattle.route_sheet.specs.Report.{Reports};
 
 use crate::refusal_line::put_sheet_refusal;
 use crate::route::put_moves;
-use crate::sheet::{read_lines, refused};
+use crate::sheet::read_whole;
 
 // The longest text that is read.
 const MOST_BYTES: usize = 65535;
+
+// The most sets and the most moves of a sheet.
+pub const MOST_SETS: usize = 16;
+
+pub const MOST_MOVES: usize = 256;
 
 // The bytes of a report's buffer: 256 lines of 128 bytes.
 pub const REPORT_BYTES: usize = 32768;
 
 // The bounds V, A, J and S of a set, in sub-count units and samples.
 #[repr(C)]
-#[derive(Clone, Copy)]
+#[derive(Clone, Copy, Debug, PartialEq, Eq, Hash)]
 pub struct BoundSet {
     pub velocity: u64,
     pub acceleration: u64,
@@ -38,69 +43,74 @@ pub struct BoundSet {
 
 // A move: its displacement X in counts, and the number of its set, from 1.
 #[repr(C)]
-#[derive(Clone, Copy)]
+#[derive(Clone, Copy, Debug, PartialEq, Eq, Hash)]
 pub struct RouteMove {
     pub displacement: i64,
     pub set: u64,
 }
 
 // Refusals 11, with its line, and 12.
-#[derive(Clone, Copy)]
+#[derive(Clone, Copy, Debug, PartialEq, Eq, Hash)]
 pub enum SheetRefusal {
     Malformed { line: u64 },
     TooLong,
 }
 
-// How many sets and moves the sheet lists.
-#[derive(Clone, Copy)]
-pub enum SheetAnswer {
-    Listed { sets: u64, moves: u64 },
-    Refused(SheetRefusal),
+impl SheetRefusal {
+    // The paper's number of a refusal.
+    pub fn number(self) -> u64
+        ensures { result ≡ (number_and_line self).0 }
+    {
+        match self {
+            SheetRefusal::Malformed { line: _ } => 11,
+            SheetRefusal::TooLong => 12,
+        }
+    }
 }
 
-// The answer, and the places of the sets and the moves. A place that none takes holds zeros.
-#[derive(Clone, Copy)]
+// How many sets and moves a sheet lists, and their places. A place that none takes holds zeros. The counts stand beside the arrays, since the
+// C interface has both (`SheetResult` of `nitswolan`).
+#[derive(Clone, Copy, Debug, PartialEq, Eq, Hash)]
 pub struct SheetReading {
-    pub answer: SheetAnswer,
-    pub sets: [BoundSet; 16],
-    pub moves: [RouteMove; 256],
+    pub set_count: u64,
+    pub move_count: u64,
+    pub sets: [BoundSet; MOST_SETS],
+    pub moves: [RouteMove; MOST_MOVES],
 }
+
+// What a place holds that no set, and no move, takes.
+pub const NO_SET: BoundSet = BoundSet {
+    velocity: 0,
+    acceleration: 0,
+    jerk: 0,
+    snap: 0,
+};
+
+pub const NO_MOVE: RouteMove = RouteMove {
+    displacement: 0,
+    set: 0,
+};
 
 // Reads the text of a sheet, or names its refusal.
-pub fn read_sheet(text: &[u8]) -> SheetReading
+#[tactic(auto, using(crate::proofs::ComesToLaws::shorter_rest, crate::specs::Beginning::too_long))]
+pub fn read_sheet(text: &[u8]) -> Result<SheetReading, SheetRefusal>
     ensures { ReadsSheet text.now result }
 {
     if MOST_BYTES < text.len() {
-        return refused(SheetRefusal::TooLong);
+        return Err(SheetRefusal::TooLong);
     }
-    read_lines(text)
+    read_whole(text).map_err(|malformed| SheetRefusal::Malformed {
+        line: malformed.line(text),
+    })
 }
 
-// The paper's number of a refusal.
-pub fn refusal_number(refusal: SheetRefusal) -> u64
-    ensures { result ≡ (number_and_line refusal).0 }
-{
-    match refusal {
-        SheetRefusal::Malformed { line: _ } => 11,
-        SheetRefusal::TooLong => 12,
-    }
-}
-
-// No effect. The proof of `report` has the length of `out` only from a call that takes it as a slice.
-fn as_slice(out: &mut [u8])
-    ensures { out.new ≡ out.old }
-{}
-
-// Puts what `bottlerun` prints of a sheet's text at the start of `out`, and answers how many bytes
+// Puts what `bottlerun` prints of a sheet's text at the start of `out`, which C lends, and answers how many bytes
 // that is. Every report has room, and the bytes after it keep what they held.
 pub fn report(text: &[u8], out: &mut [u8; REPORT_BYTES]) -> usize
     ensures { Reports text.now out.old result out.new }
 {
-    as_slice(out);
-    let sheet = read_sheet(text);
-    let answer = sheet.answer;
-    match answer {
-        SheetAnswer::Listed { sets: _, moves } => put_moves(out, sheet, moves),
-        SheetAnswer::Refused(refusal) => put_sheet_refusal(out, refusal),
+    match read_sheet(text) {
+        Ok(sheet) => put_moves(out, &sheet),
+        Err(refusal) => put_sheet_refusal(out, refusal),
     }
 }

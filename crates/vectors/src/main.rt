@@ -34,10 +34,12 @@ mod writing;
 
 use crate::axes::{answer_axes_plan, answer_axes_sample};
 use crate::forces::answer_forces;
-use crate::moves::{answer_plan, answer_sample, answer_third_plan};
+use crate::moves::{answer_plan, answer_sample};
 use crate::numbers::read_byte;
-use crate::positions::answer_positions;
+use crate::positions::answer_rows;
 use crate::sheets::answer_sheet;
+use motion::{Fourth, Third};
+use planner::Move;
 use std::io;
 use std::io::{Read, Write};
 
@@ -58,13 +60,22 @@ fn answer_all<R: Read, W: Write>(input: &mut R, out: &mut W) -> io::Result<()> {
     Ok(())
 }
 
-// Skips the space after the letter, and answers what is asked for.
+// Skips the space after the letter, and answers what is asked for. The letters are the format of a request.
 fn answer<R: Read, W: Write>(input: &mut R, out: &mut W, kind: u8) -> io::Result<()> {
     read_byte(input)?;
     match kind {
-        b'p' => answer_plan(input, out),
-        b's' => answer_sample(input, out, false),
-        b't' | b'r' => answer_positions(input, out, kind, false),
+        b'p' => answer_plan(input, out, |m: &Move| planner::plan_move(m)),
+        b's' => answer_sample::<Fourth, R, W>(input, out),
+        b't' => answer_rows(
+            input,
+            out,
+            |m: &Move, table: &mut [i64]| motion::fill_positions::<Fourth>(m, table),
+        ),
+        b'r' => answer_rows(
+            input,
+            out,
+            |m: &Move, table: &mut [i64]| motion::fill_reference::<Fourth>(m, table),
+        ),
         b'f' => answer_forces(input, out),
         b'b' => answer_sheet(input, out),
         b'P' => answer_axes_plan(input, out),
@@ -79,9 +90,18 @@ fn answer_third<R: Read, W: Write>(input: &mut R, out: &mut W) -> io::Result<()>
     let kind = read_byte(input)?;
     read_byte(input)?;
     match kind {
-        b'p' => answer_third_plan(input, out),
-        b's' => answer_sample(input, out, true),
-        b't' | b'r' => answer_positions(input, out, kind, true),
+        b'p' => answer_plan(input, out, |m: &Move| planner::plan_third(m)),
+        b's' => answer_sample::<Third, R, W>(input, out),
+        b't' => answer_rows(
+            input,
+            out,
+            |m: &Move, table: &mut [i64]| motion::fill_positions::<Third>(m, table),
+        ),
+        b'r' => answer_rows(
+            input,
+            out,
+            |m: &Move, table: &mut [i64]| motion::fill_reference::<Third>(m, table),
+        ),
         _ => write_unknown(out),
     }
 }

@@ -1,12 +1,8 @@
 // The numbers of a request, read byte by byte, since only the letter and the numbers tell where a request ends.
-ghost use Rattle.std.specs.Prelude.{◌≤◌, length};
+ghost use Rattle.std.specs.Prelude.{◌≤◌, IfOk};
 
 use std::io;
 use std::io::Read;
-use std::num::{wrapping_add_u64, wrapping_sub_u64};
-
-// The bit that stands for the sign of a number of 64 bits.
-pub(crate) const SIGN: u64 = 0x8000_0000_0000_0000;
 
 // 0 at the end of the input.
 pub(crate) fn read_byte<R: Read>(input: &mut R) -> io::Result<u8> {
@@ -17,7 +13,7 @@ pub(crate) fn read_byte<R: Read>(input: &mut R) -> io::Result<u8> {
     Ok(place[0])
 }
 
-// Reads until `text` is full or the input ends.
+// Reads until `text` is full or the input ends: `read_exact` would take the end for an error.
 pub(crate) fn read_text<R: Read>(input: &mut R, text: &mut [u8]) -> io::Result<()> {
     let mut done = 0;
     while done < text.len() {
@@ -34,41 +30,38 @@ pub(crate) fn read_text<R: Read>(input: &mut R, text: &mut [u8]) -> io::Result<(
 pub(crate) fn read_number<R: Read>(input: &mut R) -> io::Result<u64> {
     let first = read_byte(input)?;
     match first {
-        b'-' => Ok(wrapping_sub_u64(0, read_digits(input, 0, false)?)),
-        b'x' => read_digits(input, 0, true),
-        _ => read_digits(input, with_digit(0, false, first), false),
+        b'-' => Ok(read_digits(input, 0, 10)?.wrapping_neg()),
+        b'x' => read_digits(input, 0, 16),
+        _ => read_digits(input, with_digit(0, 10, first), 10),
     }
 }
 
+pub(crate) fn read_signed<R: Read>(input: &mut R) -> io::Result<i64> {
+    Ok(read_number(input)?.cast_signed())
+}
+
+// A number, or `most` where that is less.
+pub(crate) fn read_at_most<R: Read>(input: &mut R, most: usize) -> io::Result<usize>
+    ensures { IfOk result (λ n. n ≤ most) }
+{
+    Ok((read_number(input)? as usize).min(most))
+}
+
 // The number whose first digits are `first`, and whose others end at the next space or line end. Any number has less than 24.
-fn read_digits<R: Read>(input: &mut R, first: u64, hexadecimal: bool) -> io::Result<u64> {
+fn read_digits<R: Read>(input: &mut R, first: u64, base: u64) -> io::Result<u64> {
     let mut number = first;
     for _ in 0..24u64 {
         let byte = read_byte(input)?;
         if byte <= b' ' {
             return Ok(number);
         }
-        number = with_digit(number, hexadecimal, byte);
+        number = with_digit(number, base, byte);
     }
     Ok(number)
 }
 
 // The low four bits of a letter are 1 for `a`, and only a letter is above 63.
-fn with_digit(number: u64, hexadecimal: bool, byte: u8) -> u64 {
+fn with_digit(number: u64, base: u64, byte: u8) -> u64 {
     let digit = (byte % 16 + byte / 64 * 9) as u64;
-    if hexadecimal {
-        return wrapping_add_u64(number << 4, digit);
-    }
-    wrapping_add_u64(wrapping_add_u64(number << 3, number << 1), digit)
-}
-
-// n, or `most` where that is less.
-pub(crate) fn at_most(n: u64, most: usize) -> usize
-    ensures { result ≤ most }
-{
-    if (n as usize) < most {
-        n as usize
-    } else {
-        most
-    }
+    number.wrapping_mul(base).wrapping_add(digit)
 }

@@ -1,11 +1,8 @@
-// Numbers that are written, a space before each.
+// Numbers that are written, a space before each, and the answers that are made of them.
+use motion::{MotionRefusal, Sample};
+use planner::{AxisRefusal, Plan, Refusal, ThirdPlan};
 use std::io;
 use std::io::Write;
-
-pub(crate) fn write_byte<W: Write>(out: &mut W, byte: u8) -> io::Result<()> {
-    let place = [byte];
-    out.write_all(&place)
-}
 
 pub(crate) fn write_number<W: Write>(out: &mut W, n: u64) -> io::Result<()> {
     write!(out, " {n}")
@@ -15,7 +12,106 @@ pub(crate) fn write_signed<W: Write>(out: &mut W, n: i64) -> io::Result<()> {
     write!(out, " {n}")
 }
 
-pub(crate) fn write_refused<W: Write>(out: &mut W, number: u64) -> io::Result<()> {
-    out.write_all(b"refused")?;
-    write_number(out, number)
+// What is written as numbers after the word that begins an answer: no `Display`, since these are other crates' types.
+pub(crate) trait Numbers {
+    fn write_numbers<W: Write>(&self, out: &mut W) -> io::Result<()>;
+}
+
+impl Numbers for () {
+    fn write_numbers<W: Write>(&self, _out: &mut W) -> io::Result<()> {
+        Ok(())
+    }
+}
+
+impl Numbers for u64 {
+    fn write_numbers<W: Write>(&self, out: &mut W) -> io::Result<()> {
+        write_number(out, *self)
+    }
+}
+
+impl Numbers for Plan {
+    fn write_numbers<W: Write>(&self, out: &mut W) -> io::Result<()> {
+        write_number(out, self.a)?;
+        write_number(out, self.b)?;
+        write_number(out, self.c)?;
+        write_number(out, self.e)?;
+        write_number(out, self.snap)?;
+        write_number(out, self.shortfall)
+    }
+}
+
+impl Numbers for ThirdPlan {
+    fn write_numbers<W: Write>(&self, out: &mut W) -> io::Result<()> {
+        write_number(out, self.b)?;
+        write_number(out, self.c)?;
+        write_number(out, self.e)?;
+        write_number(out, self.jerk)?;
+        write_number(out, self.shortfall)
+    }
+}
+
+impl Numbers for Sample {
+    fn write_numbers<W: Write>(&self, out: &mut W) -> io::Result<()> {
+        write_signed(out, self.snap)?;
+        write_signed(out, self.jerk)?;
+        write_signed(out, self.acceleration)?;
+        write_signed(out, self.velocity)?;
+        write_signed(out, self.position)?;
+        write_signed(out, self.count)?;
+        write_signed(out, self.remainder)
+    }
+}
+
+// What is written of a refusal: its number, and where it has one the place of its axis.
+pub(crate) trait Refused {
+    fn number(&self) -> u64;
+
+    fn place(&self) -> Option<u64> {
+        None
+    }
+}
+
+impl Refused for Refusal {
+    fn number(&self) -> u64 {
+        Refusal::number(*self)
+    }
+}
+
+impl Refused for MotionRefusal {
+    fn number(&self) -> u64 {
+        MotionRefusal::number(*self)
+    }
+}
+
+impl<R: Refused> Refused for AxisRefusal<R> {
+    fn number(&self) -> u64 {
+        self.refusal.number()
+    }
+
+    fn place(&self) -> Option<u64> {
+        Some(self.place)
+    }
+}
+
+pub(crate) fn write_refused<E: Refused, W: Write>(out: &mut W, refusal: &E) -> io::Result<()> {
+    write!(out, "refused {}", refusal.number())?;
+    if let Some(place) = refusal.place() {
+        write!(out, " place {place}")?;
+    }
+    Ok(())
+}
+
+// An answer: a word and its numbers, or its refusal.
+pub(crate) fn write_answer<T: Numbers, E: Refused, W: Write>(
+    out: &mut W,
+    word: &[u8],
+    answer: &Result<T, E>,
+) -> io::Result<()> {
+    match answer {
+        Ok(given) => {
+            out.write_all(word)?;
+            given.write_numbers(out)
+        }
+        Err(refusal) => write_refused(out, refusal),
+    }
 }

@@ -15,7 +15,8 @@ use lib.Ieee.Fits.{and_l, and_r}
 use Rattle.planner.specs.Quantities.{units_per_count as G, distance, along, signed}
 use Rattle.planner.specs.Intervals.{Intervals, interval_a, interval_b, interval_c, interval_e, a, J₁, b, A₁, c, V₁, e}
 use Rattle.planner.specs.Least.{first_from, least}
-use Rattle.planner.specs.Result.{Result, first_refusal}
+use Rattle.planner.specs.Refusals.{first_refusal}
+use Rattle.std.specs.Prelude.{Result}
 use Rattle.planner.specs.Outcome.{intervals_of, samples_of, outcome_of}
 use Rattle.planner.specs.Inner.Facts.{PlanFacts}
 use Rattle.planner.proofs.Acceptance.{accepted_passes}
@@ -30,7 +31,7 @@ use Rattle.motion.specs.ForceRows.Force.{wholes, sum_in_u, q1, q2, q3, q4, weigh
 use Rattle.motion.specs.ForceRows.Claims.{IsWhole, IsRounded, IsWholeMachine, Expression, constant, sum_of, product_of, in_wholes, Within53, expression_of_u}
 use Rattle.motion.specs.Tables.{machine_check, row_numbers, force, FillsForce}
 use Rattle.motion.specs.Inner.Planned.{planned_numbers}
-use Rattle.motion.proofs.EntryLaws.{rows_are, numbers_are}
+use Rattle.motion.proofs.EntryLaws.{fourth_planned, numbers_are}
 use Rattle.motion.proofs.FillLaws.{filled_outcome}
 use Rattle.motion.proofs.RuleAnswers.{rule_table, rule_fills}
 use Rattle.motion.proofs.ForceRows.Theorems.{rigid_row}
@@ -127,7 +128,7 @@ filled_ten = rule_table (fourth_order first_starred) (machine_check machine ∷ 
 pub exact_example : (k : ℕ) → k < 10 → IsRounded (get_or filled_ten k plus_zero) (sum_in_u wholes whole (row_numbers first_starred k)) (2 * 7)
 unfolding whole FillsForce
 exact_example k l =
-    let rows : samples_of first_starred + 2 ≡ 10 = sym (rows_are plan 2) in
+    let rows : samples_of first_starred + 2 ≡ 10 = sym (ap (λ (n : ℕ). n + 2) (fourth_planned plan).samples_are) in
     let filled = rule_fills (fourth_order first_starred) (machine_check machine ∷ []) (samples_of first_starred + 2) (force first_starred machine) ten in
     let ten-rows = filled_outcome (accepted_passes first_starred plan.accepted) (rw rows (lit≤ tt)) (ap not is_in_range, tt) filled in
     rigid_row first_starred machine whole is_whole refl ten filled_ten (samples_of first_starred + 2)

@@ -1,13 +1,14 @@
 -- The force rows of a plan, written along it: what is carried along gives the rule's row at each sample.
 use mathlib.Core.List.{List}
-use mathlib.Core.Path.{◌≡◌, refl, sym, ap, ap₂, subst, ◌∙◌, fun_ext}
-use Prim.Native.Nat.{ℕ, zero, suc, ◌+◌, ◌≤◌}
+use mathlib.Core.Path.{◌≡◌, refl, sym, ap, ap₂, ◌∙◌, fun_ext}
+use Prim.Native.Nat.{ℕ, zero, suc, ◌≤◌, ◌^◌}
 use native.Mathlib.Numerals.{add-one}
 use native.Mathlib.Omega.{arith}
 use lib.IntN.{ℤ, pos}
-use lib.ListN.{length}
 use lib.Ieee.{Float}
-use Rattle.planner.specs.Intervals.{Intervals, N}
+use Rattle.planner.specs.Outcome.{intervals_in}
+use Rattle.planner.specs.declared.Move.{Move}
+use Rattle.planner.specs.declared.Plan.{Plan}
 use Rattle.profile.specs.Profile.{sum}
 use Rattle.profile.specs.Profile as profile
 use Rattle.profile.specs.Inner.Repeated.{sums}
@@ -19,16 +20,16 @@ use Rattle.motion.specs.declared.force.doubled.Earlier.{Earlier}
 use Rattle.motion.specs.declared.force.rows.Row.{Row}
 use Rattle.motion.specs.declared.force.rows.RowState.{RowState}
 use Rattle.motion.specs.Inner.Steps.{sum_from, state_from}
-use Rattle.motion.specs.Inner.Runs.{CanRun, Ran}
-use Rattle.motion.specs.Inner.Rows.{IsFeedforward, u_by, force_by, row_in, first_row, force_writer}
-use Rattle.motion.specs.Inner.Planned.{WithinRange, directed_snap, RowsIn, planned_numbers}
+use Rattle.motion.specs.Tables.{rows_from}
+use Rattle.motion.specs.declared.force.rows.Forces.{Forces}
+use Rattle.motion.specs.Inner.Stretches.{CanRun, Follows, row_count, rows_of}
+use Rattle.motion.specs.declared.sums.Stretch.{Stretch}
+use Rattle.motion.specs.Inner.Rows.{IsFeedforward, u_by, force_by, row_in, first_row, force_of_row, force_step, ForceFits}
+use Rattle.motion.specs.Inner.Planned.{WithinRange, directed_snap, planned_numbers}
 use Rattle.motion.specs.Sampling.{values_at}
-use Rattle.motion.specs.Inner.SegmentLists.{fourth_segments}
-use Rattle.motion.proofs.OrderedLaws.{fourth_samples}
 use Rattle.motion.proofs.StepLaws.{next}
 use Rattle.motion.proofs.StateLaws.{step_fits}
-use Rattle.motion.proofs.RowLaws.{Carries}
-use Rattle.motion.proofs.TableLaws.{run, can_run, rows_in}
+use Rattle.motion.proofs.StretchLaws.{can_along, rows_along}
 use Rattle.motion.proofs.ForceRows.DoubledLaws.{numbers_are, castable}
 
 -- u and the force of the row before row k
@@ -75,38 +76,45 @@ module _ {m : Machine Float} {x : Feedforward} (is : IsFeedforward m x) (f : ℕ
       ∙ force_is drive (u m numbers) k in
       λ i. record { u = u_is k i; force = force i }
 
-  carried : Carries (force_writer x) f row_state_at
-  unfolding row_state_at earlier_at previous_row earlier sum sums force_row
-  carried =
+  pub forces_at : ℕ → Forces
+  forces_at k = record { feedforward = x; current = row_state_at k }
+
+  pub forces_next : (k : ℕ) → force_step (f k) (forces_at k) ≡ forces_at (suc k)
+  unfolding forces_at row_state_at earlier_at previous_row earlier sum sums force_row
+  forces_next k =
+      λ i.
       record {
-        next = λ k. λ i.
-            record { state = (next (pos 0) f k ∙ ap (state_from (pos 0) f) (add-one k)) i; earlier = earlier_at (suc k); previous = row_is k i };
-        place_is = λ k. refl;
+        feedforward = x;
+        current = record {
+          state = (next (pos 0) f k ∙ ap (state_from (pos 0) f) (add-one k)) i;
+          earlier = earlier_at (suc k);
+          previous = row_is k i;
+        };
       }
 
-module _ (X : ℤ) (t : Intervals) (D : ℕ) (h : WithinRange t D) {m : Machine Float} {x : Feedforward} (is : IsFeedforward m x) where
+-- the rows of a plan
+module _ (m : Move) (p : Plan) (h : WithinRange (intervals_in p) p.snap) {a : Machine Float} {x : Feedforward} (is : IsFeedforward a x) where
   abbrev snap : ℕ → ℤ
-  snap = directed_snap X t D
+  snap = directed_snap m.displacement (intervals_in p) p.snap
 
-  pub forces_can_run :
-      (trailing : ℕ) {places : ℕ}
-      → trailing ≤ 2
-      → N t + trailing ≤ places
-      → CanRun (force_writer x) (run X (fourth_segments t) D trailing) first_row places
-  unfolding row_state_at earlier_at previous_row doubled earlier sum sums sum_from values_at profile.snap
-  forces_can_run trailing few l =
-      can_run X (fourth_segments t) D (N t) (fourth_samples h.ordered) (carried is snap) trailing
-      (λ i k. record { step = step_fits X t D h (pos 0) (omega arith) i (omega (arith, h.samples)); casts = castable X t D h i })
-      l
+  abbrev first : Forces
+  first = record { feedforward = x; current = first_row }
 
-  pub forces_in :
-      {old new : List Float} {end : RowState}
-      → N t + 2 ≤ length old
-      → Ran (force_writer x) (run X (fourth_segments t) D 2) first_row old new end
-      → RowsIn (N t + 2) (force_row m (planned_numbers X t D)) old new
-  unfolding row_state_at earlier_at previous_row earlier sum sums sum_from values_at profile.snap
-  forces_in {old} {new} l ran =
-      let same : (λ k. (row_in x (row_state_at is snap k)).force) ≡ force_row m (planned_numbers X t D) =
-      fun_ext (λ k. ap (λ (r : Row). r.force) (row_is is snap k)) ∙ ap (force_row m) (sym (numbers_are X t D h)) in
-      subst (λ (row : ℕ → Float). RowsIn (N t + 2) row old new) same
-      (rows_in X (fourth_segments t) D (N t) (fourth_samples h.ordered) (carried is snap) 2 l ran)
+  module _ (xs : List Stretch) (along_snap : Follows xs snap 0) where
+    pub forces_can : row_count xs ≤ 2 ^ 60 → CanRun ForceFits force_step xs first
+    unfolding forces_at row_state_at earlier_at previous_row doubled earlier sum sums sum_from values_at profile.snap
+    forces_can few =
+        can_along force_step snap (forces_at is snap) (forces_next is snap) ForceFits xs 0 along_snap
+        (λ i k. record {
+          step = step_fits m.displacement (intervals_in p) p.snap h (pos 0) (omega arith) i (omega (arith, k, few));
+          casts = castable m.displacement (intervals_in p) p.snap h i;
+        })
+
+    pub force_rows :
+        rows_of force_of_row force_step xs first ≡ rows_from (force_row a (planned_numbers m.displacement (intervals_in p) p.snap)) 0 (row_count xs)
+    unfolding forces_at row_state_at earlier_at previous_row earlier sum sums sum_from values_at profile.snap
+    force_rows =
+        let same : (λ k. (row_in x (row_state_at is snap k)).force) ≡ force_row a (planned_numbers m.displacement (intervals_in p) p.snap) =
+        fun_ext (λ k. ap (λ (r : Row). r.force) (row_is is snap k)) ∙ ap (force_row a) (sym (numbers_are m.displacement (intervals_in p) p.snap h)) in
+        rows_along force_step snap (forces_at is snap) (forces_next is snap) force_of_row xs 0 along_snap
+        ∙ ap (λ (row : ℕ → Float). rows_from row 0 (row_count xs)) same

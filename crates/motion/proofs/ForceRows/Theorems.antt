@@ -11,7 +11,7 @@ use lib.Ieee.{Float, fin, up, down, eq}
 use lib.Ieee.Positive.{positive, value_pos}
 use Rattle.planner.proofs.Acceptance.{passed_accepted}
 use Rattle.planner.specs.Quantities.{signed}
-use Rattle.planner.specs.Result.{Result, given}
+use Rattle.std.specs.Prelude.{Result, Ok}
 use Rattle.planner.specs.Claims.{Accepted}
 use Rattle.planner.specs.declared.Move.{Move}
 use Rattle.planner.proofs.PlannedFacts.{rule_facts}
@@ -59,7 +59,7 @@ above_zero p h = by_form (λ x z. T (positive x) → (z ≡ pos (nat_abs z)) × 
 -- what a filled table says of the machine
 pub filled_range :
     {x : Motion} (machine : Machine Float) {rows n : ℕ} {row : ℕ → Float} {old new : List Float}
-    → Fills x (machine_check machine ∷ []) rows row old (given n) new
+    → Fills x (machine_check machine ∷ []) rows row old (Ok n) new
     → machine_in_range (machine_as_read machine) ≡ true
 filled_range machine filled = not-false _ (filled_own filled).0
 

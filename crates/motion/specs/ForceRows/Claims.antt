@@ -1,12 +1,11 @@
 -- Document 01, "Force rows": where the rows are exact, and that each is finite. The theorems are `u_is_half`, `rigid_row` and `rows_finite`;
 -- `exact_example` shows that the hypotheses of exactness can be met.
-use Rattle.std.specs.Prelude.{Bool, List, ◌≡◌, ℕ, ◌*◌, ◌^◌, ◌≤◌, ◌<◌, T, ℤ, pos, nat_abs, ◌+ℤ◌, ◌*ℤ◌, Float, get_or}
+use Rattle.std.specs.Prelude.{Bool, List, ◌≡◌, ℕ, ◌*◌, ◌^◌, ◌≤◌, ◌<◌, T, ℤ, pos, nat_abs, ◌+ℤ◌, ◌*ℤ◌, Float, get_or, Ok}
 use Rattle.std.specs.Float.{binary64}
 use Rattle.std.specs.Float.Ieee.{round}
 use Rattle.std.specs.Float.Ieee.Exact.{HasValue}
 use Rattle.std.specs.Float.Ieee.Scale.{finite}
 use Rattle.planner.specs.Quantities.{signed}
-use Rattle.planner.specs.Result.{given}
 use Rattle.planner.specs.Claims.{Accepted}
 use Rattle.planner.specs.declared.Move.{Move}
 use Rattle.motion.specs.ForceRows.Machine.{Machine, map_machine, machine_as_read}
@@ -82,7 +81,7 @@ RigidClaim =
     → IsWholeMachine machine whole
     → whole.k12 ≡ pos 0
     → (old new : List Float) (rows : ℕ)
-    → FillsForce m machine old (given rows) new
+    → FillsForce m machine old (Ok rows) new
     → (k : ℕ) → k < rows → Within53 (expression_of_u whole (row_numbers m k))
     → (absent : Float) → IsRounded (get_or new k absent) (sum_in_u wholes whole (row_numbers m k)) (2 * nat_abs whole.c)
 
@@ -90,6 +89,6 @@ RigidClaim =
 abbrev pub FiniteClaim : Type 0
 FiniteClaim =
     (m : Move) (machine : Machine Float) (old new : List Float) (rows : ℕ)
-    → FillsForce m machine old (given rows) new
+    → FillsForce m machine old (Ok rows) new
     → (k : ℕ) → k < rows
     → (absent : Float) → T (finite (get_or new k absent))

@@ -1,7 +1,7 @@
 -- What the functions below the entries need of a plan, and what they give.
-use Rattle.std.specs.Prelude.{List, [], ◌∷◌, ◌++◌, ◌≡◌, ℕ, ◌*◌, ◌^◌, ◌≤◌, ltb, ℤ, length, drop, Float}
+use Rattle.std.specs.Prelude.{List, [], ◌∷◌, ◌++◌, ◌≡◌, ℕ, ◌*◌, ◌^◌, ◌≤◌, ltb, ℤ, length, drop, Float, Result, Ok}
 use Rattle.planner.specs.Intervals.{Intervals, N, P}
-use Rattle.planner.specs.Result.{Result, given, Check, check, first_refusal}
+use Rattle.planner.specs.Refusals.{Check, check, first_refusal}
 use Rattle.planner.specs.Outcome.{most_samples, intervals_in}
 use Rattle.planner.specs.Inner.Facts.{Ordered}
 use Rattle.planner.specs.Third.{ThirdIntervals, N₃, P₃, third_intervals_in}
@@ -14,7 +14,7 @@ use Rattle.motion.specs.ForceRows.Machine.{Machine, machine_as_read}
 use Rattle.motion.specs.ForceRows.Doubled.{Doubled, doubled_values}
 use Rattle.motion.specs.ForceRows.Force.{force_row}
 use Rattle.motion.specs.declared.Sample.{Sample}
-use Rattle.motion.specs.declared.state.State.{State}
+use Rattle.motion.specs.declared.one_sample.Derivatives.{Derivatives}
 
 -- The widths of the intervals around a, the outermost first; in the third order around b.
 abbrev pub widths_of : Intervals → List ℕ
@@ -40,10 +40,10 @@ pub record IsSampleOf (start : ℤ) (v : Values) (r : Sample) : Type 0 where
   pub rounding : Rounding v.position
   pub sample_is : r ≡ sample_of start v rounding
 
--- What a snap and a state stand for.
-abbrev pub values_in : (snap : ℤ) → State → Values
-values_in snap s =
-    record { snap = snap; jerk = s.jerk; acceleration = s.acceleration; velocity = s.velocity; position = s.position }
+-- The values that the code has of a sample.
+abbrev pub values_in : Derivatives → Values
+values_in x =
+    record { snap = x.snap; jerk = x.jerk; acceleration = x.acceleration; velocity = x.velocity; position = x.distance }
 
 module _ (X : ℤ) (t : Intervals) (D : ℕ) where
   -- The snap as a function of the sample.
@@ -70,7 +70,7 @@ pub record RowsIn {A : Type 0} (rows : ℕ) (row : ℕ → A) (old new : List A)
 
 -- The same where the table has room for the rows, else refusal 8; and the entry's own refusals.
 pub record WritesRows {A : Type 0} (own : List (Check ℕ)) (rows : ℕ) (row : ℕ → A) (old : List A) (o : Result ℕ ℕ) (new : List A) : Type 0 where
-  pub outcome_is : o ≡ first_refusal (check 8 (ltb (length old) rows) ∷ own) (given rows)
+  pub outcome_is : o ≡ first_refusal (check 8 (ltb (length old) rows) ∷ own) (Ok rows)
   pub table_is : new ≡ table_of o (rows_from row 0 rows) old
 
 -- The same of a plan as the code has it.
@@ -82,9 +82,6 @@ samples_in x = N (intervals_in x)
 
 abbrev pub fourth_values_in : ℤ → Plan → ℕ → Values
 fourth_values_in X x = values_at X (intervals_in x) x.snap
-
-abbrev pub numbers_in : ℤ → Plan → ℕ → Doubled ℤ
-numbers_in X x = planned_numbers X (intervals_in x) x.snap
 
 -- The same of a third-order plan.
 abbrev pub ThirdPlanInRange : ThirdPlan → Type 0

@@ -1,5 +1,5 @@
 -- A row of a force table from what is carried along, and what is carried on.
-use Rattle.std.specs.Prelude.{◌≡◌, refl, ◌≤◌, ◌^◌, ℤ, pos, nat_abs, ◌+ℤ◌, ◌*ℤ◌, Float}
+use Rattle.std.specs.Prelude.{◌≡◌, ◌≤◌, ◌^◌, ℤ, pos, nat_abs, ◌+ℤ◌, ◌*ℤ◌, Float}
 use Rattle.std.specs.Float.{binary64}
 use Rattle.std.specs.Float.Ieee.{mul, div}
 use Rattle.motion.specs.ForceRows.Machine.{Machine, plus_zero}
@@ -11,11 +11,11 @@ use Rattle.motion.specs.declared.force.drive.Drive.TheVariants.{Rigid, Filtered}
 use Rattle.motion.specs.declared.force.feedforward.Feedforward.{Feedforward}
 use Rattle.motion.specs.declared.force.rows.Row.{Row}
 use Rattle.motion.specs.declared.force.rows.RowState.{RowState}
+use Rattle.motion.specs.declared.force.rows.Forces.{Forces}
 use Rattle.motion.specs.declared.force.doubled.Doubled as code
 use Rattle.motion.specs.declared.force.doubled.Earlier.{Earlier}
 use Rattle.motion.specs.declared.state.State.{State}
 use Rattle.motion.specs.Inner.Steps.{stepped, rest_at, StepFits}
-use Rattle.motion.specs.Inner.Runs.{Writer}
 
 -- The doubled numbers of a row are within 2^53, so their casts lose nothing.
 pub record Castable (w : Doubled ℤ) : Type 0 where
@@ -88,13 +88,11 @@ pub record RowFits (s : RowState) (x : ℤ) : Type 0 where
   pub step : StepFits s.state x
   pub casts : Castable (doubled_by s.state.velocity s.earlier)
 
--- The force rows of a machine.
-abbrev pub force_writer : Feedforward → Writer RowState Float
-force_writer x =
-    record {
-      step = λ s snap. advanced s snap (row_in x s);
-      row = λ s. (row_in x s).force;
-      place = λ s. s.state.sample;
-      Fits = RowFits;
-      next_place = λ s snap. refl;
-    }
+abbrev pub force_of_row : Forces → Float
+force_of_row s = (row_in s.feedforward s.current).force
+
+abbrev pub force_step : (snap : ℤ) → Forces → Forces
+force_step x s = record { feedforward = s.feedforward; current = advanced s.current x (row_in s.feedforward s.current) }
+
+abbrev pub ForceFits : (snap : ℤ) → Forces → Type 0
+ForceFits x s = RowFits s.current x

@@ -20,19 +20,6 @@ fn as_read(x: f64) -> f64
     x
 }
 
-pub(crate) fn machine_as_read(machine: Machine) -> Machine
-    ensures { machine_of result ≡ machine_as_read (machine_of machine) }
-{
-    Machine {
-        m1: as_read(machine.m1),
-        m2: as_read(machine.m2),
-        k1: as_read(machine.k1),
-        k2: as_read(machine.k2),
-        k12: as_read(machine.k12),
-        c: as_read(machine.c),
-    }
-}
-
 // From 0 to 2^20. A NaN fails both comparisons.
 fn in_range(x: f64) -> bool
     ensures { result ≡ in_range x }
@@ -43,14 +30,29 @@ fn in_range(x: f64) -> bool
     false
 }
 
-pub(crate) fn machine_in_range(machine: Machine) -> bool
-    ensures { result ≡ machine_in_range (machine_of machine) }
-{
-    in_range(machine.m1)
-        & in_range(machine.m2)
-        & in_range(machine.k1)
-        & in_range(machine.k2)
-        & in_range(machine.k12)
-        & in_range(machine.c)
-        & (LEAST_STIFFNESS <= machine.c)
+impl Machine {
+    pub(crate) fn as_read(self) -> Machine
+        ensures { machine_of result ≡ machine_as_read (machine_of self) }
+    {
+        Machine {
+            m1: as_read(self.m1),
+            m2: as_read(self.m2),
+            k1: as_read(self.k1),
+            k2: as_read(self.k2),
+            k12: as_read(self.k12),
+            c: as_read(self.c),
+        }
+    }
+
+    pub(crate) fn in_range(self) -> bool
+        ensures { result ≡ machine_in_range (machine_of self) }
+    {
+        in_range(self.m1)
+            & in_range(self.m2)
+            & in_range(self.k1)
+            & in_range(self.k2)
+            & in_range(self.k12)
+            & in_range(self.c)
+            & (LEAST_STIFFNESS <= self.c)
+    }
 }

@@ -1,57 +1,34 @@
-// The table of a plan's force rows.
-ghost use Rattle.std.specs.Prelude.{[], ◌∷◌, ◌+◌, ◌≤◌, length};
-ghost use Rattle.motion.specs.ForceRows.Machine.{machine_as_read};
-ghost use Rattle.motion.specs.ForceRows.Force.{force_row};
-ghost use Rattle.motion.specs.Tables.{machine_check};
-ghost use Rattle.motion.specs.Answer.{machine_of, table_outcome};
-ghost use Rattle.motion.specs.Inner.Planned.{PlanInRange, samples_in, numbers_in, RowsIn, WritesRows};
+// The table of a move's force rows.
+ghost use Rattle.motion.specs.Tables.{FillsForce};
+ghost use Rattle.motion.specs.Answer.{machine_of, outcome};
 
-use crate::force::feedforward::feedforward_of;
-use crate::force::machine_range::{machine_as_read, machine_in_range};
-use crate::force::rows::first_row;
-use crate::force::store::store_rows;
-use crate::planned::samples_in_plan;
-use crate::segments::{durations_of, segment_at};
-use crate::switched::levels_of;
-use crate::{Machine, MotionRefusal, TableAnswer};
-use planner::Plan;
+use crate::force::feedforward::Feedforward;
+use crate::force::rows::{Forces, RowState};
+use crate::fourth::Fourth;
+use crate::order::Order;
+use crate::planned::Planned;
+use crate::sums::fill_stretches;
+use crate::{Machine, MotionRefusal};
+use planner::Move;
 
-// Writes rows 0 to N+1. The last two are those of samples with no snap.
-fn fill_rows(table: &mut [f64], displacement: i64, plan: Plan, machine: Machine)
-    requires plan_in_range { PlanInRange plan }
-    requires plan_bound { samples_in plan + 2 ≤ length table.old }
-    ensures { RowsIn (samples_in plan + 2) (force_row (machine_of machine) (numbers_in displacement plan)) table.old table.new }
+// Writes rows 0 to N+1 where the table has room for them and the machine is in range, else refusal 8 or 10.
+pub fn fill_force(m: &Move, machine: Machine, table: &mut [f64]) -> Result<usize, MotionRefusal>
+    ensures { FillsForce m.now (machine_of machine) table.old (outcome result) table.new }
 {
-    let levels = levels_of(displacement, plan.snap);
-    let durations = durations_of(plan, 2);
-    let feedforward = feedforward_of(machine);
-    let mut current = first_row();
-    let mut i = 0u64;
-    while i < 16 {
-        let segment = segment_at(durations, levels, i);
-        current = store_rows(table, segment.samples, segment.level, feedforward, current);
-        i += 1;
+    let plan = Fourth::plan(m)?;
+    let rows = plan.samples() as usize + 2;
+    if table.len() < rows {
+        return Err(MotionRefusal::ShortTable);
     }
-}
-
-// The rows of a plan where the table has room for them and the machine is in range, else refusal 8 or 10.
-pub(crate) fn write_rows(
-    table: &mut [f64],
-    displacement: i64,
-    plan: Plan,
-    machine: Machine,
-) -> TableAnswer
-    requires { PlanInRange plan }
-    ensures { WritesRows (machine_check (machine_of machine) ∷ []) (samples_in plan + 2) (force_row (machine_as_read (machine_of machine)) (numbers_in displacement plan)) table.old (table_outcome result) table.new }
-{
-    let rows = samples_in_plan(plan) + 2;
-    if (table.len() as u64) < rows {
-        return TableAnswer::Refused(MotionRefusal::ShortTable);
+    let read = machine.as_read();
+    if !read.in_range() {
+        return Err(MotionRefusal::MachineRange);
     }
-    let read = machine_as_read(machine);
-    if !machine_in_range(read) {
-        return TableAnswer::Refused(MotionRefusal::MachineRange);
-    }
-    fill_rows(table, displacement, plan, read);
-    TableAnswer::Filled(rows)
+    let stretches = plan.stretches(m, 2);
+    let first = Forces {
+        feedforward: Feedforward::of(read),
+        current: RowState::first(),
+    };
+    fill_stretches(table, &stretches, first);
+    Ok(rows)
 }

@@ -1,19 +1,15 @@
 -- Intervals that are searched for up to a cap only, and how they stand to the rule's.
 use Rattle.std.specs.Prelude.{◌≡◌, ℕ, ◌*◌, ◌^◌, ◌≤◌, ◌<◌, min}
 use Rattle.planner.specs.Intervals.{Intervals, N, interval_b, c, e, intervals_by}
-use Rattle.planner.specs.Claims.{BoundInRange, BoundsInRange}
+use Rattle.planner.specs.Claims.{BoundInRange}
 use Rattle.planner.specs.declared.intervals.Intervals as code
 
--- The figures of a move in range, by its distance: those that both orders read, and all of them.
+-- The figures of a move in range that both orders read, by its distance.
 pub record FiguresToJerk (W V₀ A₀ J₀ : ℕ) : Type 0 where
   pub distance : W ≤ 2 ^ 60
   pub velocity : BoundInRange V₀
   pub acceleration : BoundInRange A₀
   pub jerk : BoundInRange J₀
-
-pub record Figures (W V₀ A₀ J₀ S₀ : ℕ) : Type 0 where
-  pub distance : W ≤ 2 ^ 60
-  pub bounds : BoundsInRange V₀ A₀ J₀ S₀
 
 -- r and x are the same number, or both are at least cap; r is from 1 to most.
 pub record Agrees (cap most r x : ℕ) : Type 0 where

@@ -1,28 +1,19 @@
 // Axes at rest.
-ghost use Rattle.std.specs.Prelude.{◌≡◌, ◌≤◌, take};
-ghost use Rattle.planner.specs.Axes.{most_axes, at_rest, all_at_rest};
+ghost use Rattle.std.specs.Prelude.{◌≡◌, ◌↔◌, All, IsTrue};
+ghost use Rattle.planner.specs.Axes.{at_rest};
 
-use crate::size::magnitude;
-use crate::{MOST_AXES, Move};
+use crate::Move;
 
-pub(crate) fn rests(m: Move) -> bool
-    ensures { result ≡ at_rest m }
-{
-    magnitude(m.displacement) == 0
+impl Move {
+    pub(crate) fn rests(&self) -> bool
+        ensures { result ≡ at_rest self.now }
+    {
+        self.displacement == 0
+    }
 }
 
-#[tactic(auto, using(crate::proofs::Sets::rest_set))]
-pub(crate) fn all_rest(count: usize, moves: [Move; MOST_AXES]) -> bool
-    requires { count ≤ most_axes }
-    ensures { result ≡ all_at_rest (take count moves) }
+pub(crate) fn all_rest(axes: &[Move]) -> bool
+    ensures { IsTrue result ↔ All (λ m. IsTrue (at_rest m)) axes.now }
 {
-    let mut i = 0;
-    while i < count {
-        let m = moves[i];
-        if !rests(m) {
-            return false;
-        }
-        i += 1;
-    }
-    true
+    axes.iter().all(|m| m.rests())
 }

@@ -1,7 +1,8 @@
 // Floats as their 64 bits, so that every digit and the sign of a zero count. Which of its many patterns a NaN has is not defined: all of
 // them are read alike, and one is written.
 
-use crate::numbers::SIGN;
+// The bit that stands for the sign.
+const SIGN: u64 = 0x8000_0000_0000_0000;
 
 const INFINITY: u64 = 0x7ff0_0000_0000_0000;
 
@@ -15,10 +16,6 @@ pub(crate) fn float_of(bits: u64) -> f64 {
     f64::from_bits(bits)
 }
 
-// Only a NaN differs from itself.
 pub(crate) fn bits_of(x: f64) -> u64 {
-    if x == x {
-        return f64::to_bits(x);
-    }
-    NAN
+    if x.is_nan() { NAN } else { x.to_bits() }
 }

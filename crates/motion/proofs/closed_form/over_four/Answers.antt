@@ -5,16 +5,16 @@ use native.Mathlib.Omega.{arith}
 use Rattle.motion.proofs.FallingFactorials.{copies_at, difference_fits, one_width_more}
 use Rattle.motion.proofs.closed_form.over_four.Goals as goal
 
-pub difference-requires : goal.difference-requires
-difference-requires c =
+pub less-requires : goal.less-requires
+less-requires c =
     let a = c.args in
-    let copies = copies_at (a.c ∷ a.b ∷ a.a ∷ []) a.k c.delayed.result in
-    let either = difference_fits copies (omega arith) c.requires (omega (arith, c.delayed.ensures, c.requires)) in
+    let copies = copies_at (a.c ∷ a.b ∷ a.a ∷ []) a.k c.saturating_sub.result in
+    let either = difference_fits copies (omega arith) c.requires (omega (arith, c.saturating_sub.ensures, c.requires)) in
     rw (c.over_three-now.ensures, c.over_three-late.ensures) (search either)
 
 pub returns : goal.returns
 returns c =
     let a = c.args in
-    let copies = copies_at (a.c ∷ a.b ∷ a.a ∷ []) a.k c.delayed.result in
-    let wider = one_width_more copies a.e (omega (arith, c.delayed.ensures)) in
-    c.difference.ensures ∙ rw (c.over_three-now.ensures, c.over_three-late.ensures) wider
+    let copies = copies_at (a.c ∷ a.b ∷ a.a ∷ []) a.k c.saturating_sub.result in
+    let wider = one_width_more copies a.e (omega (arith, c.saturating_sub.ensures)) in
+    c.less.ensures ∙ rw (c.over_three-now.ensures, c.over_three-late.ensures) wider

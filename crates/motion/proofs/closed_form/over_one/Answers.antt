@@ -5,16 +5,16 @@ use native.Mathlib.Omega.{arith}
 use Rattle.motion.proofs.FallingFactorials.{copies_at, difference_fits, one_width_more}
 use Rattle.motion.proofs.closed_form.over_one.Goals as goal
 
-pub difference-requires : goal.difference-requires
-difference-requires c =
+pub less-requires : goal.less-requires
+less-requires c =
     let a = c.args in
-    let copies = copies_at [] a.k c.delayed.result in
-    let either = difference_fits copies (omega arith) c.requires (omega (arith, c.delayed.ensures, c.requires)) in
-    rw (c.products_of-now.ensures, c.products_of-late.ensures) (search either)
+    let copies = copies_at [] a.k c.saturating_sub.result in
+    let either = difference_fits copies (omega arith) c.requires (omega (arith, c.saturating_sub.ensures, c.requires)) in
+    rw (c.at-now.ensures, c.at-late.ensures) (search either)
 
 pub returns : goal.returns
 returns c =
     let a = c.args in
-    let copies = copies_at [] a.k c.delayed.result in
-    let wider = one_width_more copies a.a (omega (arith, c.delayed.ensures)) in
-    c.difference.ensures ∙ rw (c.products_of-now.ensures, c.products_of-late.ensures) wider
+    let copies = copies_at [] a.k c.saturating_sub.result in
+    let wider = one_width_more copies a.a (omega (arith, c.saturating_sub.ensures)) in
+    c.less.ensures ∙ rw (c.at-now.ensures, c.at-late.ensures) wider

@@ -6,4 +6,4 @@ pub returns : goal.returns
 returns c =
     let a = c.args in
     let p = c.requires in
-    least_between a.k a.u a.d p.bound a.t p.from_one p.span.ordered c.search.ensures
+    least_between a.k a.u a.d p.bound a.t p.from_one p.span.ordered (rw c.div_ceil.ensures at c.search.ensures)

@@ -10,7 +10,7 @@ use Rattle.planner.proofs.search.search.Goals as goal
 pub loop-from-init : goal.loop-from-init
 loop-from-init c =
     let a = c.args in
-    let end = rw c.larger.ensures at c.smaller-to.ensures in
+    let end = rw c.max.ensures at c.min-to.ensures in
     (omega arith, omega arith, λ r w. within_target (growth_at_least a.u a.d) end w)
 
 pub overflow_mul-reached : goal.overflow_mul-reached

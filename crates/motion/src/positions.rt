@@ -1,3 +1,0 @@
-// The table of positions.
-pub(crate) mod store;
-pub(crate) mod table;

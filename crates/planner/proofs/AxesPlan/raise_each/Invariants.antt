@@ -1,0 +1,9 @@
+-- The places so far are raised.
+use mathlib.Core.Path.{◌≡◌}
+use mathlib.Core.List.{map, ◌++◌}
+use lib.ListN.{take, drop}
+use Rattle.planner.specs.Inner.AxisAnswers.{raised_plan}
+use Rattle.planner.proofs.AxesPlan.raise_each.Given as goal
+
+abbrev pub invariant-loop-x : goal.invariant-loop-x
+invariant-loop-x l = l.x-items ≡ map (raised_plan l.samples) (take l.x-index l.fn.self.plans) ++ drop l.x-index l.fn.self.plans

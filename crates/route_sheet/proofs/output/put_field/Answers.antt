@@ -1,6 +1,0 @@
--- `put_field` meets its contract.
-use Rattle.route_sheet.proofs.OutputLaws.{put_more}
-use Rattle.route_sheet.proofs.output.put_field.Goals as goal
-
-pub returns : goal.returns
-returns c = put_more c.put_text-number.ensures c.put_number.ensures
