@@ -6,7 +6,7 @@ use crate::planned::sample_in;
 use crate::{MotionRefusal, Sample};
 use planner::{AxisRefusal, MOST_AXES, Move, Plan};
 
-// What stands in the places without an axis.
+// What stands in the places without an axis: a constant beside `default`, since the definitions name it (`rest_sample`).
 const NO_SAMPLE: Sample = Sample {
     snap: 0,
     jerk: 0,

@@ -1,5 +1,5 @@
 // What a plan of any order is played by: its samples, and the stretches and the start of its tables. The plan is the planner's own type, so
-// `in_range` stands in the clauses: a type around plan and move would be copied for each axis of a set.
+// `in_range` and the bound of the start stand in clauses: a type around plan and move would be copied for each axis of a set.
 ghost use Rattle.std.specs.Prelude.{◌≡◌, ◌≤◌, ◌^◌, ℕ, ℤ, ◌+◌, ◌+ℤ◌, nat_abs};
 ghost use Rattle.std.specs.Int.{w64};
 ghost use Rattle.std.proofs.Common.{SFits};

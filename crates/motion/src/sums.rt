@@ -128,7 +128,8 @@ fn fill_stretch<S: Sums>(part: &mut [S::Row], stretch: &Stretch, state: S) -> S
     fill(part, stretch.level, state)
 }
 
-// The rows of all stretches, from place 0 on.
+// The rows of all stretches, from place 0 on. By places, since the invariant is over the whole table: a rest that is lent anew in each turn
+// would not name it.
 pub(crate) fn fill_stretches<S: Sums>(table: &mut [S::Row], stretches: &[Stretch], state: S)
     requires room { row_count stretches.now ≤ length table.old }
     requires fits { CanRun S.can_step S.stepped stretches.now state }

@@ -19,6 +19,7 @@ pub(crate) struct Figures {
 impl Figures {
     ghost use Rattle.planner.specs.Inner.Undivided.{Measures};
 
+    // No `TryFrom`: five refusals are asked, and the bound on the snap is left out.
     #[tactic(auto, unfolding(crate::specs::Inner::Undivided::checked, crate::specs::Inner::Undivided::figures_result, crate::specs::Quantities::distance, crate::specs::Refusals::first_refusal))]
     pub(crate) fn of(m: &Move) -> Result<Figures, Refusal>
         ensures { Measures m.now result }

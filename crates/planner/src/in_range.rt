@@ -22,7 +22,7 @@ impl Move {
             return Err(Refusal::StartOrEndRange);
         }
         let Intervals { a, b, c, e } = figures.intervals(self.snap);
-        let x = Plan {
+        let plan = Plan {
             a,
             b,
             c,
@@ -30,9 +30,9 @@ impl Move {
             snap: 0,
             shortfall: figures.distance,
         };
-        if MOST_SAMPLES < x.samples() {
+        if MOST_SAMPLES < plan.samples() {
             return Err(Refusal::TooManySamples);
         }
-        Ok(x)
+        Ok(plan)
     }
 }

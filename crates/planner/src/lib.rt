@@ -49,7 +49,7 @@ pub struct Plan {
     pub shortfall: u64,
 }
 
-// The plan of an axis at rest.
+// The plan of an axis at rest: a constant beside `default`, since the definitions name it (`rest_plan`).
 const REST: Plan = Plan {
     a: 0,
     b: 0,
@@ -102,8 +102,8 @@ pub struct AxisRefusal<R> {
 pub fn plan_move(m: &Move) -> Result<Plan, Refusal>
     ensures { Plans m.now (outcome result) }
 {
-    let x = m.undivided_plan()?;
-    Ok(x.divided())
+    let plan = m.undivided_plan()?;
+    Ok(plan.divided())
 }
 
 impl Refusal {

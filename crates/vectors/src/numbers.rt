@@ -4,7 +4,7 @@ ghost use Rattle.std.specs.Prelude.{◌≤◌, IfOk};
 use std::io;
 use std::io::Read;
 
-// 0 at the end of the input.
+// 0 at the end of the input. Each reader takes both alike, so that an `Option` would say no more.
 pub(crate) fn read_byte<R: Read>(input: &mut R) -> io::Result<u8> {
     let mut place = [0u8; 1];
     if input.read(&mut place)? == 0 {

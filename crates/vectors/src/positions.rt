@@ -1,7 +1,6 @@
 // Tables of positions and of reference rows, in either order.
 use crate::moves::read_move;
 use crate::tables::{MOST_PLACES, Place, answer_table};
-use crate::writing::write_signed;
 use motion::MotionRefusal;
 use planner::Move;
 use std::io;
@@ -12,7 +11,7 @@ const MARK: i64 = 4_611_686_018_427_387_904;
 
 impl Place for i64 {
     fn write<W: Write>(self, out: &mut W) -> io::Result<()> {
-        write_signed(out, self)
+        write!(out, " {self}")
     }
 
     fn bits(self) -> u64 {

@@ -1,7 +1,6 @@
 // What is read from a sheet's text, and the report.
 use crate::numbers::{read_at_most, read_number, read_text};
 use crate::sums::{sum_with, write_sum};
-use crate::writing::write_number;
 use route_sheet::{REPORT_BYTES, SheetReading, SheetRefusal};
 use std::io;
 use std::io::{Read, Write};
@@ -27,9 +26,7 @@ fn write_report<W: Write>(out: &mut W, text: &[u8]) -> io::Result<()> {
 fn write_reading<W: Write>(out: &mut W, text: &[u8]) -> io::Result<()> {
     match route_sheet::read_sheet(text) {
         Ok(sheet) => {
-            out.write_all(b"read")?;
-            write_number(out, sheet.set_count)?;
-            write_number(out, sheet.move_count)?;
+            write!(out, "read {} {}", sheet.set_count, sheet.move_count)?;
             write_sum(out, sum_of(&sheet))
         }
         Err(refusal) => {

@@ -1,5 +1,4 @@
 // A sum over all places, so that none differs unseen.
-use crate::writing::write_number;
 use std::io;
 use std::io::Write;
 
@@ -8,7 +7,5 @@ pub(crate) fn sum_with(sum: u64, bits: u64) -> u64 {
 }
 
 pub(crate) fn write_sum<W: Write>(out: &mut W, sum: u64) -> io::Result<()> {
-    out.write_all(b" sum")?;
-    write_number(out, sum)?;
-    out.write_all(b"\n")
+    write!(out, " sum {sum}\n")
 }

@@ -1,16 +1,8 @@
-// Numbers that are written, a space before each, and the answers that are made of them.
+// Answers: numbers with a space before each, or a refusal.
 use motion::{MotionRefusal, Sample};
 use planner::{AxisRefusal, Plan, Refusal, ThirdPlan};
 use std::io;
 use std::io::Write;
-
-pub(crate) fn write_number<W: Write>(out: &mut W, n: u64) -> io::Result<()> {
-    write!(out, " {n}")
-}
-
-pub(crate) fn write_signed<W: Write>(out: &mut W, n: i64) -> io::Result<()> {
-    write!(out, " {n}")
-}
 
 // What is written as numbers after the word that begins an answer: no `Display`, since these are other crates' types.
 pub(crate) trait Numbers {
@@ -25,40 +17,29 @@ impl Numbers for () {
 
 impl Numbers for u64 {
     fn write_numbers<W: Write>(&self, out: &mut W) -> io::Result<()> {
-        write_number(out, *self)
+        write!(out, " {self}")
     }
 }
 
 impl Numbers for Plan {
     fn write_numbers<W: Write>(&self, out: &mut W) -> io::Result<()> {
-        write_number(out, self.a)?;
-        write_number(out, self.b)?;
-        write_number(out, self.c)?;
-        write_number(out, self.e)?;
-        write_number(out, self.snap)?;
-        write_number(out, self.shortfall)
+        write!(out, " {} {} {} {}", self.a, self.b, self.c, self.e)?;
+        write!(out, " {} {}", self.snap, self.shortfall)
     }
 }
 
 impl Numbers for ThirdPlan {
     fn write_numbers<W: Write>(&self, out: &mut W) -> io::Result<()> {
-        write_number(out, self.b)?;
-        write_number(out, self.c)?;
-        write_number(out, self.e)?;
-        write_number(out, self.jerk)?;
-        write_number(out, self.shortfall)
+        write!(out, " {} {} {}", self.b, self.c, self.e)?;
+        write!(out, " {} {}", self.jerk, self.shortfall)
     }
 }
 
 impl Numbers for Sample {
     fn write_numbers<W: Write>(&self, out: &mut W) -> io::Result<()> {
-        write_signed(out, self.snap)?;
-        write_signed(out, self.jerk)?;
-        write_signed(out, self.acceleration)?;
-        write_signed(out, self.velocity)?;
-        write_signed(out, self.position)?;
-        write_signed(out, self.count)?;
-        write_signed(out, self.remainder)
+        write!(out, " {} {} {}", self.snap, self.jerk, self.acceleration)?;
+        write!(out, " {} {}", self.velocity, self.position)?;
+        write!(out, " {} {}", self.count, self.remainder)
     }
 }
 

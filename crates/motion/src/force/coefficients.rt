@@ -15,11 +15,11 @@ pub struct Coefficients {
     pub q4: f64,
 }
 
-impl Coefficients {
+impl From<Machine> for Coefficients {
+    ghost from_gives = { λ machine q. AreCoefficients (machine_of machine) q };
+
     // The operations stand in the paper's order, and each is rounded once.
-    pub(crate) fn of(machine: Machine) -> Coefficients
-        ensures { AreCoefficients (machine_of machine) result }
-    {
+    fn from(machine: Machine) -> Coefficients {
         let masses = machine.m1 + machine.m2;
         let dampings = machine.k1 + machine.k2;
         Coefficients {
@@ -29,7 +29,9 @@ impl Coefficients {
             q4: dampings * machine.c,
         }
     }
+}
 
+impl Coefficients {
     // The paper's u of a row. The casts lose nothing, and the operations stand in the paper's order.
     pub(crate) fn u(self, w: Doubled) -> f64
         requires { Castable (doubled_numbers w) }

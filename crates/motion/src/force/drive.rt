@@ -13,10 +13,10 @@ pub enum Drive {
     Filtered(f64, f64),
 }
 
-impl Drive {
-    pub(crate) fn of(machine: Machine) -> Drive
-        ensures { drive_kind result ≡ drive_of machine.k12 machine.c }
-    {
+impl From<Machine> for Drive {
+    ghost from_gives = { λ machine drive. drive_kind drive ≡ drive_of machine.k12 machine.c };
+
+    fn from(machine: Machine) -> Drive {
         if machine.k12 == 0.0 {
             return Drive::Rigid(machine.c);
         }
@@ -24,7 +24,9 @@ impl Drive {
         let g = twice + machine.c;
         Drive::Filtered((twice - machine.c) / g, 1.0 / g)
     }
+}
 
+impl Drive {
     // Of a row with this u, after the row before.
     pub(crate) fn force(self, u: f64, previous: Row) -> f64
         ensures { result ≡ force_by (drive_kind self) u previous }

@@ -15,16 +15,18 @@ pub struct Feedforward {
     pub drive: Drive,
 }
 
-impl Feedforward {
-    pub(crate) fn of(machine: Machine) -> Feedforward
-        ensures { IsFeedforward (machine_of machine) result }
-    {
+impl From<Machine> for Feedforward {
+    ghost from_gives = { λ machine feedforward. IsFeedforward (machine_of machine) feedforward };
+
+    fn from(machine: Machine) -> Feedforward {
         Feedforward {
-            q: Coefficients::of(machine),
-            drive: Drive::of(machine),
+            q: Coefficients::from(machine),
+            drive: Drive::from(machine),
         }
     }
+}
 
+impl Feedforward {
     pub(crate) fn row(self, current: RowState) -> Row
         requires { Castable (doubled_by current.state.velocity current.earlier) }
         ensures { result ≡ row_in self current }

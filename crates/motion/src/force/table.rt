@@ -26,7 +26,7 @@ pub fn fill_force(m: &Move, machine: Machine, table: &mut [f64]) -> Result<usize
     }
     let stretches = plan.stretches(m, 2);
     let first = Forces {
-        feedforward: Feedforward::of(read),
+        feedforward: Feedforward::from(read),
         current: RowState::first(),
     };
     fill_stretches(table, &stretches, first);

@@ -30,9 +30,9 @@ pub(crate) fn find_each(axes: &[Move]) -> Result<AxesPlan, AxisRefusal<Refusal>>
     let mut samples = 0u64;
     for (i, m) in axes.iter().enumerate() {
         let place = i as u64 + 1;
-        let x = undivided_axis(m).map_err(|refusal| AxisRefusal { place, refusal })?;
-        plans[i] = x;
-        samples = samples.max(x.samples());
+        let plan = undivided_axis(m).map_err(|refusal| AxisRefusal { place, refusal })?;
+        plans[i] = plan;
+        samples = samples.max(plan.samples());
     }
     Ok(AxesPlan { samples, plans })
 }

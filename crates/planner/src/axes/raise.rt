@@ -31,8 +31,8 @@ impl AxesPlan {
         ensures { (self.new.samples ≡ self.old.samples) × (self.new.plans ≡ map (raised_plan self.old.samples) self.old.plans) }
     {
         let samples = self.samples;
-        for x in self.plans.iter_mut() {
-            *x = x.raised(samples);
+        for plan in self.plans.iter_mut() {
+            *plan = plan.raised(samples);
         }
     }
 }

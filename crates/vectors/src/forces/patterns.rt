@@ -11,7 +11,7 @@ const NAN: u64 = 0x7ff8_0000_0000_0000;
 // A NaN's pattern without its sign is above infinity's.
 pub(crate) fn float_of(bits: u64) -> f64 {
     if INFINITY < bits % SIGN {
-        return 0.0 / 0.0;
+        return f64::NAN;
     }
     f64::from_bits(bits)
 }

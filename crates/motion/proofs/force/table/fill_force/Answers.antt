@@ -42,7 +42,7 @@ pub fill_stretches-requires-clause-fits : goal.fill_stretches-requires-clause-fi
 fill_stretches-requires-clause-fits c =
     let stretches = c.stretches-stretches.ensures in
     rw c.first.ensures
-    (forces_can c.args.m.now c.in_ok-plan.plan c.in_ok-plan.ensures.in_range c.of.ensures _ stretches.follow
+    (forces_can c.args.m.now c.in_ok-plan.plan c.in_ok-plan.ensures.in_range c.from.ensures _ stretches.follow
     (omega (arith, c.in_ok-plan.ensures.in_range.samples, stretches.count)))
 
 pub returns : goal.returns
@@ -52,7 +52,7 @@ returns c =
     let machine = machine_of c.args.machine in
     let range : c.in_range.result ≡ machine_in_range (machine_as_read machine) = c.in_range.ensures ∙ ap machine_in_range c.as_read-read.ensures in
     let stretches = c.stretches-stretches.ensures in
-    let rows = force_rows m x c.in_ok-plan.ensures.in_range c.of.ensures _ stretches.follow in
+    let rows = force_rows m x c.in_ok-plan.ensures.in_range c.from.ensures _ stretches.follow in
     let filled : c.fill_stretches.new.table ≡ rows_from (planned_force m.displacement (intervals_in x) x.snap machine) 0 (N (intervals_in x) + 2) ++ drop (N (intervals_in x) + 2) c.args.table.now =
     rw (c.first.ensures, rows, c.as_read-read.ensures, stretches.count) at c.fill_stretches.ensures in
     force_filled c.args.m.now c.in_ok-plan.plan c.in_ok-plan.ensures.ruled machine

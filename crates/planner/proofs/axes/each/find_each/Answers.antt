@@ -9,20 +9,20 @@ use Rattle.planner.proofs.axes.each.find_each.Goals as goal
 pub loop-i-init : goal.loop-i-init
 loop-i-init c = (found_none _, refl)
 
-pub returns-in_err-x : goal.returns-in_err-x
-returns-in_err-x c = finds_refusal c.loop-i.invariant.0 _ c.loop-i-test.true c.undivided_axis.ensures (search rules)
+pub returns-in_err-plan : goal.returns-in_err-plan
+returns-in_err-plan c = finds_refusal c.loop-i.invariant.0 _ c.loop-i-test.true c.undivided_axis.ensures (search rules)
 
 pub samples-requires : goal.samples-requires
 samples-requires c =
-    let found : c.undivided_axis.result ≡ Ok c.in_ok-x.x = search rules in
+    let found : c.undivided_axis.result ≡ Ok c.in_ok-plan.plan = search rules in
     omega (arith, found_samples _ (ap outcome (sym found) ∙ c.undivided_axis.ensures))
 
 pub loop-i-preserved : goal.loop-i-preserved
 loop-i-preserved c =
-    let found : c.undivided_axis.result ≡ Ok c.in_ok-x.x = search rules in
+    let found : c.undivided_axis.result ≡ Ok c.in_ok-plan.plan = search rules in
     let is = ap outcome (sym found) ∙ c.undivided_axis.ensures in (
       rw c.max-samples.ensures (found_next c.loop-i.invariant.0 _ c.loop-i-test.true _ _ is c.samples.ensures (omega arith)),
-      length-set c.loop-i.plans c.loop-i.i c.in_ok-x.x ∙ c.loop-i.invariant.1,
+      length-set c.loop-i.plans c.loop-i.i c.in_ok-plan.plan ∙ c.loop-i.invariant.1,
     )
 
 pub returns : goal.returns

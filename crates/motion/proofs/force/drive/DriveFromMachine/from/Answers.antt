@@ -1,8 +1,8 @@
--- `of` meets its contract.
+-- `from` meets its contract.
 use lib.Ieee.{of_bits}
 use Rattle.motion.specs.ForceRows.Force.{g, alpha, beta}
 use Rattle.motion.proofs.ForceRows.MachineLaws.{is_rigid, is_filtered}
-use Rattle.motion.proofs.force.drive.Drive.of.Goals as goal
+use Rattle.motion.proofs.force.drive.DriveFromMachine.from.Goals as goal
 
 pub returns-then-machine : goal.returns-then-machine
 unfolding of_bits
