@@ -29,7 +29,7 @@ fn sample_axis(plan: &Plan, m: &Move, k: u64) -> Sample
 }
 
 // The values of the first `count` moves as the axes of a set at sample k, from 0 to the common N. The places after the last axis have zeros.
-// The loop stands here, since the plans would be copied once more for a function of its own.
+// The loop stands here, since the plans would be copied once more for a function of its own. Count and array are as for `plan_axes`.
 pub fn sample_axes(
     count: u64,
     moves: [Move; MOST_AXES],

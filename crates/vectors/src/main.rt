@@ -43,7 +43,8 @@ use planner::Move;
 use std::io;
 use std::io::{Read, Write};
 
-// Neither end is buffered, so that each answer is there before the next request is read.
+// Neither end is buffered, so that each answer is there before the next request is read. They go side by side: readers take the one, writers
+// the other.
 fn main(rt: HostRuntime) -> io::Result<()> {
     answer_all(&mut rt.stdin(), &mut rt.stdout())
 }
