@@ -12,7 +12,7 @@
  * table or report buffer of one overlaps what another is lent.
  *
  * Every call ends, and waits for nothing. Below stand, of each function, the stack that it takes at most, and the most instructions that it
- * was found to take. From the C library only memcpy, memmove and memset are used. A table or a text of length 0 may be NULL; any other
+ * was found to take. From the C library only memcpy and memset are used. A table or a text of length 0 may be NULL; any other
  * pointer is valid for its length and aligned as its type asks. The archive is for x86-64 Linux; the header needs C99, or C++.
  *
  * nitswolan_fill_force needs the floating-point state that a C program starts with: rounding to nearest, subnormals kept, no exception
@@ -64,7 +64,7 @@ extern "C" {
  * otherwise. */
 #define NITSWOLAN_VERSION_MAJOR 1
 #define NITSWOLAN_VERSION_MINOR 0
-#define NITSWOLAN_VERSION_PATCH 2
+#define NITSWOLAN_VERSION_PATCH 3
 #define NITSWOLAN_VERSION_TEXT_(major, minor, patch) #major "." #minor "." #patch
 #define NITSWOLAN_VERSION_TEXT(major, minor, patch) NITSWOLAN_VERSION_TEXT_(major, minor, patch)
 #define NITSWOLAN_VERSION NITSWOLAN_VERSION_TEXT(NITSWOLAN_VERSION_MAJOR, NITSWOLAN_VERSION_MINOR, NITSWOLAN_VERSION_PATCH)
@@ -88,7 +88,7 @@ extern "C" {
 
 /* The stack that a call of each function takes at most, in bytes: its arguments, its return address and all that it calls, besides its
  * answer. As measured, rounded up to a multiple of 64. No function calls itself, directly or by way of others, so the depth of calls does
- * not grow with what is sent. What memcpy, memmove and memset take themselves is the C library's. Where a program binds their names only at
+ * not grow with what is sent. What memcpy and memset take themselves is the C library's. Where a program binds their names only at
  * the first call, that call takes some 3 KiB more: link with -z now, or call every function once before. */
 #define NITSWOLAN_STACK_PLAN_MOVE 320
 #define NITSWOLAN_STACK_SAMPLE_MOVE 640
@@ -101,12 +101,12 @@ extern "C" {
 #define NITSWOLAN_STACK_SAMPLE_THIRD 384
 #define NITSWOLAN_STACK_FILL_POSITIONS_THIRD 320
 #define NITSWOLAN_STACK_FILL_REFERENCE_THIRD 256
-#define NITSWOLAN_STACK_READ_SHEET 27840
-#define NITSWOLAN_STACK_REPORT 28160
+#define NITSWOLAN_STACK_READ_SHEET 14080
+#define NITSWOLAN_STACK_REPORT 5184
 
 /* The most instructions of the library that a call of each function was found to take, rounded up to a multiple of 100. Counted over inputs
  * that a search found in the archive of an older toolchain, and not proved: docs/BENCHMARKS.md of the sources says how, what bounds each,
- * and how many bytes the functions for sheets and sets hand to memcpy, memmove and memset besides. */
+ * and how many bytes the functions for sheets and sets hand to memcpy and memset besides. */
 #define NITSWOLAN_INSTRUCTIONS_PLAN_MOVE 1600
 #define NITSWOLAN_INSTRUCTIONS_SAMPLE_MOVE 2000
 #define NITSWOLAN_INSTRUCTIONS_FILL_POSITIONS 34700
@@ -118,8 +118,8 @@ extern "C" {
 #define NITSWOLAN_INSTRUCTIONS_SAMPLE_THIRD 1100
 #define NITSWOLAN_INSTRUCTIONS_FILL_POSITIONS_THIRD 37300
 #define NITSWOLAN_INSTRUCTIONS_FILL_REFERENCE_THIRD 45500
-#define NITSWOLAN_INSTRUCTIONS_READ_SHEET 157200
-#define NITSWOLAN_INSTRUCTIONS_REPORT 577500
+#define NITSWOLAN_INSTRUCTIONS_READ_SHEET 151400
+#define NITSWOLAN_INSTRUCTIONS_REPORT 640300
 
 /* Refusals. nitswolan_refusal_text has the words. */
 enum {

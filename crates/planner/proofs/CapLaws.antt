@@ -120,7 +120,7 @@ module _ (W V₀ A₀ J₁ a rb a1 rc v1 re : ℕ)
           at_most = (gb.at_most, gc.at_most, ge.at_most);
         }
 
--- what `find_intervals` puts together
+-- what `intervals` puts together
 module _ (W V₀ A₀ J₀ S₀ ra j1 : ℕ) (t : Intervals)
     (ga : Agrees 4097 4097 ra (interval_a W V₀ A₀ J₀ S₀))
     (hj : Carried J₀ S₀ ra j1)

@@ -1,7 +1,7 @@
 -- Laws of the intervals of a third-order plan: b by the base's rule, their order, their product, the bounds that the jerk keeps; and what
--- `third_in_range` answers.
+-- `plan_third` answers.
 use mathlib.Core.Bool.{Bool, true, false}
-use mathlib.Core.Path.{◌≡◌, sym, ap, ap₂, ◌∙◌}
+use mathlib.Core.Path.{◌≡◌, sym, ap, ap₂, subst, ◌∙◌}
 use Prim.Native.Nat.{ℕ, ◌+◌, ◌*◌, ◌^◌, ◌≤◌, ◌<◌, min}
 use native.Mathlib.Nat.{le_trans, le_of_eq, mul_assoc, mul-pos, mul-le-mul, mul-le-mul_right, min-le_left, div-mul-le_self}
 use native.Mathlib.Omega.{arith}
@@ -92,28 +92,33 @@ module _ {t : ThirdIntervals} (o : ThirdOrdered t) where
       let product : u * (u * t.e) ≤ 2048 * 2 ^ 22 = mul-le-mul half ends in
       omega (arith, squares, product, mul_assoc 4 (t.b * t.c) t.e, mul_assoc u u t.e)
 
--- what `third_in_range` answers: refusal 14
+-- what `plan_third` answers: refusal 14
 pub third_ends_refused : (W V₀ A₀ J₀ : ℕ) (outside : Bool) → outside ≡ true → Err 14 ≡ third_within W V₀ A₀ J₀ outside
 unfolding third_within
 third_ends_refused W V₀ A₀ J₀ outside h = (stop h).is
 
--- or by the numbers that the searches found
-module _ (W V₀ A₀ J₀ : ℕ) (outside : Bool) (inside : outside ≡ false) (t : Intervals) (g : LaterAgree 4097 W V₀ A₀ J₀ 0 t) where
-  abbrev three : Intervals → ThirdIntervals
-  three t = record { b = t.b; c = t.c; e = t.e }
+-- or by the numbers that the searches found, for the jerk as the code reads it
+module _ (W V₀ A₀ J₀ : ℕ) (outside : Bool) (inside : outside ≡ false) (t : Intervals)
+    {J₁ : ℕ} (found : LaterAgree 4097 W V₀ A₀ J₁ 0 t) (same_jerk : J₁ ≡ J₀)
+  where
+    g : LaterAgree 4097 W V₀ A₀ J₀ 0 t
+    g = subst (λ (j : ℕ). LaterAgree 4097 W V₀ A₀ j 0 t) same_jerk found
 
-  three_are : three (later_by W V₀ A₀ J₀ 0) ≡ third_intervals_by W V₀ A₀ J₀
-  three_are = ap (λ (b : ℕ). record { b = b; c = c W V₀ A₀ J₀ 0 b; e = e W V₀ A₀ J₀ 0 b }) (sym (base_b W V₀ A₀ J₀))
+    abbrev three : Intervals → ThirdIntervals
+    three t = record { b = t.b; c = t.c; e = t.e }
 
-  same_samples : min 4097 (N₃ (three t)) ≡ min 4097 (N₃ (third_intervals_by W V₀ A₀ J₀))
-  same_samples = omega (arith, g.samples, g.first, ap N₃ three_are)
+    three_are : three (later_by W V₀ A₀ J₀ 0) ≡ third_intervals_by W V₀ A₀ J₀
+    three_are = ap (λ (b : ℕ). record { b = b; c = c W V₀ A₀ J₀ 0 b; e = e W V₀ A₀ J₀ 0 b }) (sym (base_b W V₀ A₀ J₀))
 
-  pub third_too_many : most_samples < N₃ (three t) → Err 7 ≡ third_within W V₀ A₀ J₀ outside
-  unfolding third_within
-  third_too_many h = (skip inside (stop (lt-ltb most_samples (N₃ (third_intervals_by W V₀ A₀ J₀)) (omega (arith, same_samples))))).is
+    same_samples : min 4097 (N₃ (three t)) ≡ min 4097 (N₃ (third_intervals_by W V₀ A₀ J₀))
+    same_samples = omega (arith, g.samples, g.first, ap N₃ three_are)
 
-  pub third_found : N₃ (three t) ≤ most_samples → Ok (third_plan_of W (three t)) ≡ third_within W V₀ A₀ J₀ outside
-  unfolding third_within
-  third_found h =
-      ap (λ (t : ThirdIntervals). Ok (third_plan_of W t)) (ap three (g.same (omega (arith, g.first))) ∙ three_are)
-      ∙ (skip inside (skip (le-ltb most_samples (N₃ (third_intervals_by W V₀ A₀ J₀)) (omega (arith, same_samples))) none_left)).is
+    pub third_too_many : most_samples < N₃ (three t) → Err 7 ≡ third_within W V₀ A₀ J₀ outside
+    unfolding third_within
+    third_too_many h = (skip inside (stop (lt-ltb most_samples (N₃ (third_intervals_by W V₀ A₀ J₀)) (omega (arith, same_samples))))).is
+
+    pub third_found : N₃ (three t) ≤ most_samples → Ok (third_plan_of W (three t)) ≡ third_within W V₀ A₀ J₀ outside
+    unfolding third_within
+    third_found h =
+        ap (λ (t : ThirdIntervals). Ok (third_plan_of W t)) (ap three (g.same (omega (arith, g.first))) ∙ three_are)
+        ∙ (skip inside (skip (le-ltb most_samples (N₃ (third_intervals_by W V₀ A₀ J₀)) (omega (arith, same_samples))) none_left)).is

@@ -3,16 +3,17 @@ use mathlib.Core.List.{List, [], ◌∷◌, ◌++◌, append-nil}
 use mathlib.Core.Path.{◌≡◌, refl, ap, ◌∙◌, sym, subst}
 use Prim.Native.Nat.{ℕ, ◌+◌, ◌-◌, ◌≤◌}
 use native.Mathlib.Omega.{arith}
-use lib.ListN.{length, take, length-append}
+use lib.ListN.{length, take, drop, length-append}
 use lib.Seq.{take_at}
+use Rattle.std.proofs.lemmas.List.{drop_at, take_all}
 use Rattle.std.specs.Prelude.{Result, Err}
 use Rattle.planner.proofs.Clash.{clash}
 use Rattle.route_sheet.specs.Text.{line_ends}
 use Rattle.route_sheet.specs.Sheet.{Sheet, SheetAllowed, sheet_text}
 use Rattle.route_sheet.specs.Beginning.{LongestBeginning, most_bytes, ComesTo, too_long, listed, malformed_at}
-use Rattle.route_sheet.specs.Inner.Reading.{Parse, parsed, failed, then_read, read_sections, at_end, read_whole, outcome}
+use Rattle.route_sheet.specs.Inner.Reading.{Parse, parsed, failed, then_read, read_sections, lines_in, at_end, read_whole, line_of, outcome}
 use Rattle.route_sheet.proofs.FormatLaws.{Failure, ParseSound, not_both}
-use Rattle.route_sheet.proofs.SheetLaws.{sections_format}
+use Rattle.route_sheet.proofs.SheetLaws.{sections_format, sheet_lines}
 use Rattle.route_sheet.proofs.StopLaws.{longest}
 
 -- A sheet's text, and nothing after it.
@@ -65,6 +66,18 @@ shorter_rest t e = let h = stops_at e in rw (h.splits, length-append) (omega ari
 
 before_rest : (t p rest : List ℕ) → t ≡ p ++ rest → take (length t - length rest) t ≡ p
 before_rest t p rest e = rw e (take_at p rest (length (p ++ rest) - length rest) (omega (arith, length-append p rest)))
+
+-- A byte after a whole sheet stands on the line after the sheet's.
+pub line_after_sheet : (x : Sheet) (rest : List ℕ) → line_of (sheet_text x ++ rest) rest ≡ 1 + lines_in x
+line_after_sheet x rest = rw (before_rest (sheet_text x ++ rest) (sheet_text x) rest refl, sheet_lines x)
+
+-- The rest that cannot go on is what the text ends with.
+pub rest_left : (t : List ℕ) {rest : List ℕ} → read_whole t ≡ failed rest → (from : ℕ) → from ≡ length t - length rest → rest ≡ take (length t - from) (drop from t)
+rest_left t {rest} e from at =
+    let h = stops_at e in
+    let size = length-append h.beginning rest in
+    rw h.splits
+    (sym (ap (take (length (h.beginning ++ rest) - from)) (drop_at h.beginning rest from (omega (arith, at, ap length h.splits, size))) ∙ take_all _ rest (omega (arith, at, ap length h.splits, size))))
 
 module _ (t : List ℕ) (fits : length t ≤ most_bytes) where
   comes_to : (x : Parse Sheet) → read_whole t ≡ x → ParseSound sheet_text SheetAllowed read_whole t x → ComesTo t (outcome t x)

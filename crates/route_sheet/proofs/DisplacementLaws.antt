@@ -6,12 +6,13 @@ use native.Mathlib.Decide.{ℕ_discrete}
 use native.Mathlib.Omega.{arith}
 use borrow.Author.Tests.{ne_eqb}
 use lib.IntN.{ℤ, pos, negsuc, neg_ℤ, nat_abs}
-use Rattle.route_sheet.specs.Text.{space, minus, digit, decimal, signed_decimal}
+use Rattle.route_sheet.specs.Text.{space, minus, line_ends, digit, decimal, signed_decimal}
 use Rattle.route_sheet.specs.Sheet.{Within, most_displacement, ended}
 use Rattle.route_sheet.specs.Inner.Reading.{Parse, parsed, failed, then_read, read_number, read_displacement}
 use Rattle.route_sheet.proofs.DecimalLaws.{decimal_digit, decimal_more, by_digits}
+use Rattle.route_sheet.proofs.TextLaws.{line_ends_append}
 use Rattle.route_sheet.proofs.FormatLaws.{Format, ParseSound, begins_none, failure_at_end}
-use Rattle.route_sheet.proofs.NumberLaws.{number_format}
+use Rattle.route_sheet.proofs.NumberLaws.{decimal_lines, number_format}
 
 abbrev displacement_text : ℤ → List ℕ
 displacement_text x = ended space (signed_decimal x)
@@ -131,3 +132,12 @@ displacement_sound (b ∷ s) = go (ℕ_discrete b minus)
 
 pub displacement_format : Format displacement_text DisplacementAllowed read_displacement
 displacement_format = record { reads_back = reads_back; sound = displacement_sound }
+
+-- X stands in one line.
+pub signed_lines : (x : ℤ) → line_ends (signed_decimal x) ≡ 0
+unfolding signed_decimal
+signed_lines (pos n) = decimal_lines n
+signed_lines (negsuc n) = decimal_lines (suc n)
+
+pub displacement_lines : (x : ℤ) → line_ends (displacement_text x) ≡ 0
+displacement_lines x = simp (line_ends_append, signed_lines)

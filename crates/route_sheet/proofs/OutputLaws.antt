@@ -5,15 +5,12 @@ use Prim.Native.Nat.{ℕ, ◌+◌, ◌-◌, ◌≤◌, ◌<◌}
 use native.Mathlib.Numerals.{add-one}
 use native.Mathlib.Omega.{arith}
 use denote.Ref.{Bor}
-use lib.ListN.{length, take, drop, get_or, length-append, drop_of_length-le}
-use lib.Seq.{drop-cons}
+use lib.ListN.{length, take, drop, get_or, set, length-append, drop_of_length-le}
+use lib.Seq.{drop-cons, take-suc}
 use Rattle.std.proofs.Common.{take-append-drop}
-use Rattle.std.proofs.lemmas.List.{drop-drop}
-use Rattle.std.proofs.lemmas.Slice.{take-put_mid, drop-put_mid}
+use Rattle.std.proofs.lemmas.List.{drop-drop, take_more_set, drop-set-lt}
 use Rattle.route_sheet.specs.Text.{line_end, decimal}
 use Rattle.route_sheet.specs.Inner.Output.{Puts, Room, line_text}
-
-pub ruleset put_steps = (take-put_mid, drop-put_mid, length-append, append_assoc)
 
 -- What agrees from i on agrees from j on.
 drop_later : (i j : ℕ) (xs ys : List ℕ) → i ≤ j → drop i xs ≡ drop i ys → drop j xs ≡ drop j ys
@@ -32,6 +29,21 @@ put_more {old} {mid} {new} {at} {next} {end} {xs} {ys} p q = record {
   front = q.front ∙ ap (λ (t : List ℕ). t ++ ys) p.front ∙ append_assoc (take at old) xs ys;
   rest = q.rest ∙ drop_later next end mid old (omega (arith, q.next_is)) p.rest;
 }
+
+-- One byte more of a text.
+pub put_next :
+    {old new : List ℕ} (text : List ℕ) {at i : ℕ} → i < length text → at + i < length new → Puts old at (take i text) (at + i) new →
+    Puts old at (take (i + 1) text) (at + (i + 1)) (set new (at + i) (get_or text i 0))
+put_next {old} {new} text {at} {i} h room p =
+    let b = get_or text i 0 in
+    let more : take (i + 1) text ≡ take i text ++ (b ∷ []) = rw add-one (take-suc text i 0 h) in
+    let next : at + (i + 1) ≡ at + i + 1 = omega arith in
+    let one : Puts new (at + i) (b ∷ []) (at + i + 1) (set new (at + i) b) = record {
+      next_is = refl;
+      front = take_more_set new (at + i) b room;
+      rest = drop-set-lt (at + i + 1) new (at + i) b (omega arith);
+    } in
+    rw (more, next) (put_more p one)
 
 pub put_whole : {old new bytes : List ℕ} {next : ℕ} → Puts old 0 bytes next new → new ≡ bytes ++ drop (length bytes) old
 put_whole {old} {new} {bytes} {next} p =

@@ -6,10 +6,9 @@ use native.Mathlib.Omega.{arith}
 use lib.ListN.{length, take, replicate, length-append}
 use Rattle.planner.specs.Refusals.{padded}
 use Rattle.std.specs.Prelude.{Result}
-use lib.Dec.{eqb}
-use Rattle.route_sheet.specs.Text.{line_end, line_ends}
+use Rattle.route_sheet.specs.Text.{line_ends}
 use Rattle.route_sheet.specs.Sheet.{Sheet, most_sets, most_moves}
-use Rattle.route_sheet.specs.Beginning.{LongestBeginning, most_bytes, ComesTo, too_long, listed, malformed_at}
+use Rattle.route_sheet.specs.Beginning.{LongestBeginning, ComesTo, too_long, listed, malformed_at}
 use Rattle.route_sheet.specs.Answer.{zero_set, zero_move}
 use Rattle.route_sheet.specs.Report.{field, move_of, moves_report, sheet_report, most_report, Reports}
 use Rattle.route_sheet.specs.Claims.{ReportFitsClaim}
@@ -18,7 +17,8 @@ use Rattle.route_sheet.specs.Inner.Lines.{most_line}
 use Rattle.route_sheet.specs.declared.BoundSet.{BoundSet}
 use Rattle.route_sheet.specs.declared.RouteMove.{RouteMove}
 use Rattle.route_sheet.proofs.DecimalLaws.{decimal_length}
-use Rattle.std.proofs.lemmas.List.Sums.{count_by-le-length}
+use Rattle.route_sheet.proofs.TextLaws.{line_ends_append}
+use Rattle.route_sheet.proofs.SheetLaws.{sheet_lines}
 use Rattle.route_sheet.proofs.OutputLaws.{put_whole}
 use Rattle.route_sheet.proofs.ReportBounds.{line_length}
 use Rattle.route_sheet.proofs.ContentsLaws.{take_padded, get_d_padded}
@@ -48,15 +48,24 @@ moves_length sets number (m ∷ ms) h =
     (omega (arith, line_length number (move_of sets m) (omega arith), moves_length sets (suc number) ms (omega arith)))
 
 -- The largest line of a refusal.
-most_line_lem : {text p : List ℕ} → length text ≤ most_bytes → LongestBeginning text p → 1 + line_ends p ≤ 65536
-most_line_lem {p = p} l h = omega (arith, count_by-le-length (λ b. eqb b line_end) p, ap length h.splits, length-append p h.rest)
+most_line_lem : {text p : List ℕ} → LongestBeginning text p → 1 + line_ends p ≤ 275
+most_line_lem {p = p} h =
+    let begin = h.can_begin in
+    omega (
+      arith,
+      line_ends_append p begin.rest,
+      ap line_ends begin.whole,
+      sheet_lines begin.sheet,
+      begin.allowed.first.count.to,
+      begin.allowed.second.count.to,
+    )
 
 pub report_fits : ReportFitsClaim
 unfolding sheet_report field
 report_fits text result (too_long l) = simp length-append (omega (arith, decimal_length 1 12 (omega arith)))
 report_fits text result (malformed_at {beginning = p} l no-sheet h) =
-    let line-most = most_line_lem l h in
-    simp length-append (omega (arith, decimal_length 1 11 (omega arith), decimal_length 4 (1 + line_ends p) (omega arith)))
+    let line-most = most_line_lem h in
+    simp length-append (omega (arith, decimal_length 1 11 (omega arith), decimal_length 2 (1 + line_ends p) (omega arith)))
 report_fits text result (listed {sheet = x} l allowed e) =
     let few : length x.moves ≤ most_moves = allowed.second.count.to in
     omega (arith, moves_length x.sets 1 x.moves (omega arith))

@@ -1,14 +1,18 @@
 -- The format of a sheet: its two sections, each a count and then its lines.
 use mathlib.Core.List.{append_assoc}
-use mathlib.Core.Path.{refl}
+use mathlib.Core.Path.{◌≡◌, refl}
 use native.Mathlib.Omega.{arith}
 use lib.ListN.{length}
-use Rattle.route_sheet.specs.Sheet.{most_sets, most_moves, SheetAllowed, sheet_text}
-use Rattle.route_sheet.specs.Inner.Reading.{then_read, read_sections}
+use Rattle.route_sheet.specs.Text.{line_ends}
+use Rattle.route_sheet.specs.Sheet.{Sheet, most_sets, most_moves, SheetAllowed, set_line, move_line, sheet_text}
+use Rattle.route_sheet.specs.Inner.Reading.{then_read, read_sections, lines_in}
+use Rattle.route_sheet.proofs.TextLaws.{line_ends_append}
 use Rattle.route_sheet.proofs.FormatLaws.{Format, same_reader}
 use Rattle.route_sheet.proofs.SequenceLaws.{then_assoc, pair}
 use Rattle.route_sheet.proofs.MappedFormats.{mapped}
-use Rattle.route_sheet.proofs.LineLaws.{count_format, set_format, move_format}
+use Rattle.route_sheet.proofs.NumberLaws.{decimal_lines}
+use Rattle.route_sheet.proofs.LineLaws.{count_format, set_format, set_lines, move_format, move_lines}
+use Rattle.route_sheet.proofs.JoinedLaws.{joined_lines}
 use Rattle.route_sheet.proofs.SectionLaws.{lines_format}
 
 pub sections_format : Format sheet_text SheetAllowed read_sections
@@ -35,3 +39,9 @@ sections_format =
       part_makes = λ x h. refl;
     }))
     (λ t. simp then_assoc)
+
+pub sheet_lines : (x : Sheet) → line_ends (sheet_text x) ≡ lines_in x
+unfolding sheet_text
+sheet_lines x =
+    simp (line_ends_append, decimal_lines, joined_lines set_line set_lines x.sets, joined_lines move_line move_lines x.moves)
+    (omega arith)

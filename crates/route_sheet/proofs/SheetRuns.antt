@@ -16,7 +16,7 @@ use Rattle.std.specs.Prelude.{Result, Ok, Err, MatchResult, IsErrAnd}
 use Rattle.std.proofs.lemmas.Result.{err_from_is_err_and}
 use Rattle.route_sheet.specs.Beginning.{most_bytes}
 use Rattle.route_sheet.specs.Answer.{ReadsSheet}
-use Rattle.route_sheet.specs.Inner.Sections.{ReadsWhole}
+use Rattle.route_sheet.specs.Inner.Sections.{ReadsWhole, reading_in}
 use Rattle.route_sheet.specs.declared.SheetReading.{SheetReading}
 use Rattle.route_sheet.specs.declared.SheetRefusal.{SheetRefusal}
 use Rattle.route_sheet.specs.declared.SheetRefusal.TheVariants as refusals
@@ -34,27 +34,31 @@ nothing_after x [] e = refl
 nothing_after x (b ∷ s) e = absurd (true≢false (e ∙ ne_eqb (suc (length s)) 0 (λ h. omega arith)))
 
 -- A section of `count` lines, read into the first of `most` places. The others are as they were.
-pub record InPlaces {A : Type 0} (read : List ℕ → Parse A) (text : List ℕ) (most : ℕ) (unused : A) (count : ℕ) (new : List A) (rest : List ℕ) : Type 0 where
+pub record InPlaces {A : Type 0} (read : List ℕ → Parse A) (text : List ℕ) (most : ℕ) (unused : A) (count : ℕ) (old new : List A) (rest : List ℕ) : Type 0 where
   pub found : read_lines read count text ≡ parsed new rest
   pub count_is : count ≡ length new
-  pub places : new ++ drop count (replicate most unused) ≡ padded most unused new
+  pub places : new ++ drop count old ≡ padded most unused new
 
 pub in_places :
-    {A : Type 0} (read : List ℕ → Parse A) (text : List ℕ) (most : ℕ) (unused : A) (count : ℕ) {new : List A} {rest : List ℕ} →
-    count ≤ most → length new ≡ length (take count (replicate most unused)) →
-    parsed new rest ≡ read_lines read (length (take count (replicate most unused))) text → InPlaces read text most unused count new rest
-in_places read text most unused count h same e =
+    {A : Type 0} (read : List ℕ → Parse A) (text : List ℕ) (most : ℕ) (unused : A) (count : ℕ) {old new : List A} {rest : List ℕ} →
+    old ≡ replicate most unused → count ≤ most → length new ≡ length (take count old) →
+    parsed new rest ≡ read_lines read (length (take count old)) text → InPlaces read text most unused count old new rest
+in_places read text most unused count blank h same e =
     let all : length (replicate most unused) ≡ most = length-replicate most unused in
     let room : length (take count (replicate most unused)) ≡ count = length-take-le count (replicate most unused) (omega arith) in
-    record { found = rw room at (sym e); count_is = sym (same ∙ room); places = rw (same, room, drop-replicate) refl }
+    record {
+      found = rw (blank, room) at (sym e);
+      count_is = sym (rw (blank, room) at same);
+      places = rw (blank, same, blank, room, drop-replicate) refl;
+    }
 
 -- A text that is not too long comes to what is read of it.
-module _ (text : List ℕ) (fits : length text ≤ most_bytes) (r : Result SheetReading SheetRefusal) {P : Malformed → SheetRefusal → Type 0} where
+module _ (text : List ℕ) (fits : length text ≤ most_bytes) (sheet : SheetReading) (r : Result (Unit {0}) SheetRefusal) {P : Malformed → SheetRefusal → Type 0} where
   pub reads :
-      (x : Result SheetReading Malformed) → ReadsWhole text x → MatchResult x (λ s. r ≡ Ok s) (λ e. IsErrAnd r (P e)) →
-      ((e : Malformed) (y : SheetRefusal) → P e y → y ≡ refusals.Malformed (line_of text e.rest.now)) → ReadsSheet text r
+      (x : Result (Unit {0}) Malformed) → ReadsWhole text sheet x → MatchResult x (λ s. r ≡ Ok s) (λ e. IsErrAnd r (P e)) →
+      ((e : Malformed) (y : SheetRefusal) → P e y → y ≡ refusals.Malformed (line_of text e.rest.now)) → ReadsSheet text (reading_in sheet r)
   unfolding outcome
-  reads (Ok s) whole is lines = rw is (record { sheet = whole.sheet; comes_to = rw whole.found at (sound text fits); lists = whole.lists })
+  reads (Ok x) whole is lines = rw is (record { sheet = whole.sheet; comes_to = rw whole.found at (sound text fits); lists = whole.lists })
   reads (Err e) fails is lines =
       let p = err_from_is_err_and r is in
       rw (p.1, lines e _ p.2) (rw fails at (sound text fits))

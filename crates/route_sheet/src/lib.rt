@@ -18,7 +18,7 @@ ghost use Rattle.route_sheet.specs.Report.{Reports};
 
 use crate::refusal_line::put_sheet_refusal;
 use crate::route::put_moves;
-use crate::sheet::read_whole;
+use crate::sheet::read_into;
 
 // The longest text that is read.
 const MOST_BYTES: usize = 65535;
@@ -91,17 +91,21 @@ pub const NO_MOVE: RouteMove = RouteMove {
     set: 0,
 };
 
+// A reading whose places hold zeros.
+const NO_SHEET: SheetReading = SheetReading {
+    set_count: 0,
+    move_count: 0,
+    sets: [NO_SET; MOST_SETS],
+    moves: [NO_MOVE; MOST_MOVES],
+};
+
 // Reads the text of a sheet, or names its refusal.
-#[tactic(auto, using(crate::proofs::ComesToLaws::shorter_rest, crate::specs::Beginning::too_long))]
 pub fn read_sheet(text: &[u8]) -> Result<SheetReading, SheetRefusal>
     ensures { ReadsSheet text.now result }
 {
-    if MOST_BYTES < text.len() {
-        return Err(SheetRefusal::TooLong);
-    }
-    read_whole(text).map_err(|malformed| SheetRefusal::Malformed {
-        line: malformed.line(text),
-    })
+    let mut sheet = NO_SHEET;
+    read_into(text, &mut sheet)?;
+    Ok(sheet)
 }
 
 // Puts what `bottlerun` prints of a sheet's text at the start of `out`, which C lends, and answers how many bytes
@@ -109,8 +113,9 @@ pub fn read_sheet(text: &[u8]) -> Result<SheetReading, SheetRefusal>
 pub fn report(text: &[u8], out: &mut [u8; REPORT_BYTES]) -> usize
     ensures { Reports text.now out.old result out.new }
 {
-    match read_sheet(text) {
-        Ok(sheet) => put_moves(out, &sheet),
+    let mut sheet = NO_SHEET;
+    match read_into(text, &mut sheet) {
+        Ok(()) => put_moves(out, &sheet),
         Err(refusal) => put_sheet_refusal(out, refusal),
     }
 }

@@ -81,6 +81,10 @@ read_sections text =
     then_read (read_lines (read_move m) n rest) λ moves rest.
     parsed (record { sets = sets; moves = moves }) rest
 
+-- The lines of a sheet: two counts, and one for each set and each move.
+abbrev pub lines_in : Sheet → ℕ
+lines_in x = 2 + length x.sets + length x.moves
+
 -- "Nothing follows the last line."
 unfoldable pub at_end : {A : Type 0} → A → List ℕ → Parse A
 at_end x [] = parsed x []

@@ -1,6 +1,0 @@
-use Rattle.std.proofs.Common.{rules, arith}
-use Rattle.route_sheet.proofs.SheetRuns.{reads}
-use Rattle.route_sheet.proofs.read_sheet.Goals as goal
-
-pub returns : goal.returns
-returns c = reads c.args.text.now (omega arith) c.map_err.result c.read_whole.result c.read_whole.ensures c.map_err.ensures.cases (λ e y p. search rules)
